@@ -20,6 +20,7 @@ pub mod Places
 pub mod Reaching
 pub mod ResumedRuns
 pub mod ResumedSteps
+pub mod Returns
 pub mod Room
 pub mod SavedLexers
 pub mod Soundness

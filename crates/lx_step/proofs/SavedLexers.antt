@@ -6,6 +6,7 @@ use Rattle.lx_base.specs.Names.{AreDistinct, IsNoneOf}
 use Rattle.lx_ccode.proofs.Words.{equal_words-self, equal_words-true}
 use Rattle.lx_ccode.specs.declared.piece.CondCase.{CondCase}
 use Rattle.lx_ccode.specs.declared.piece.Piece.{Piece}
+use Rattle.lx_ccode.specs.declared.piece.StateCase.{StateCase}
 use Rattle.lx_ccode.specs.Statements.{all_statements, statement_count}
 use Rattle.lx_ccode.specs.States.{stores}
 use Rattle.lx_ccode.specs.Validity.{IsValid}
@@ -19,7 +20,7 @@ use Rattle.lx_step.specs.declared.tags.TagTable.{TagTable}
 use Rattle.lx_step.specs.Conds.{IsCond, cond_name, cond_number}
 use Rattle.lx_step.specs.Firsts.{AreFirsts}
 use Rattle.lx_step.specs.Given.{Given}
-use Rattle.lx_step.specs.Left.{IsFrom, Left, left_of}
+use Rattle.lx_step.specs.Left.{IsFrom, IsReturnOf, Left, left_of}
 use Rattle.lx_step.specs.LexerParts.{IsLexerOf, IsSaved}
 use Rattle.lx_step.specs.Numbers.{IsNumberingOf}
 use Rattle.lx_step.specs.Places.{places_from}
@@ -44,8 +45,8 @@ left-state P scanner steps h = by scanner.state h where
   by (Some state) h = h
 
 -- a lexer fits its own piece
-pub Fits-own : (program : Program) (start steps conds : ℕ) (scanner : Scanner) (given : Given) (table : TagTable) (assigned : List StmtAt) (firsts : List First) (room : ℕ) (kept : Kept)
-    → IsLexerOf program start scanner given table assigned firsts room → conds ≡ length program.piece.now.conds
+pub Fits-own : (program : Program) (start steps conds : ℕ) (scanner : Scanner) (given : Given) (table : TagTable) (assigned : List StmtAt) (firsts : List First) (room : ℕ) (known : Option StateCase) (kept : Kept)
+    → IsLexerOf program start scanner given table assigned firsts room known → conds ≡ length program.piece.now.conds
     → kept.counts ≡ record {
       registers = length scanner.registers.items;
       histories = length scanner.histories;
@@ -55,7 +56,7 @@ pub Fits-own : (program : Program) (start steps conds : ℕ) (scanner : Scanner)
       assignments = program.assignments;
     }
     → kept.assigned ≡ assigned → kept.left ≡ left_of scanner steps → Fits program.piece.now kept
-Fits-own program start steps conds scanner given table assigned firsts room kept lexer many counts places left = record {
+Fits-own program start steps conds scanner given table assigned firsts room known kept lexer many counts places left = record {
   counts =
       let registers = lexer.tables.registers in
       let histories = lexer.tables.histories in
@@ -91,7 +92,7 @@ IsCond-distinct : (conds : List CondCase) (number : ℕ) → AreDistinct (map (�
 IsCond-distinct [] number distinct h = record { within = h; first = let none : 0 ≡ number = omega (arith, h) in none }
 IsCond-distinct (case ∷ cases) number distinct h = record { within = h; first = cond_number-distinct (case ∷ cases) number distinct (omega (arith, h)) }
 
-pub IsLexerOf-resumed : (program : Program) (start steps conds assignments : ℕ) (before : TagTable) (noted : List First) (scanner : Scanner) (numbering : Numbering) (given : Given) (table : TagTable) (assigned : List StmtAt) (firsts : List First) (room : ℕ) (kept : Kept)
+pub IsLexerOf-resumed : (program : Program) (start steps conds assignments : ℕ) (before : TagTable) (noted : List First) (scanner : Scanner) (numbering : Numbering) (given : Given) (table : TagTable) (assigned : List StmtAt) (firsts : List First) (room : ℕ) (known : Option StateCase) (kept : Kept)
     → IsValid program.piece.now → program.statements ≡ statement_count program.piece.now.blocks → program.assignments ≡ assignments
     → IsSaved conds assignments start before scanner given assigned noted room → Fits program.piece.now kept
     → kept.counts ≡ record {
@@ -103,8 +104,8 @@ pub IsLexerOf-resumed : (program : Program) (start steps conds assignments : ℕ
       assignments = assignments;
     }
     → kept.assigned ≡ assigned → kept.left ≡ left_of scanner steps → IsNumberingOf program.piece.now.blocks numbering → AreTags program.piece.now.blocks table → AreFirsts program.piece.now.blocks assigned firsts
-    → IsLexerOf program start (record scanner { numbering = numbering }) given table assigned firsts room
-IsLexerOf-resumed program start steps conds assignments before noted scanner numbering given table assigned firsts room kept valid statements own saved fits counts places left numbered tags notes =
+    → IsReturnOf program.piece.now.blocks known → IsLexerOf program start (record scanner { numbering = numbering }) given table assigned firsts room known
+IsLexerOf-resumed program start steps conds assignments before noted scanner numbering given table assigned firsts room known kept valid statements own saved fits counts places left numbered tags notes returns =
     let piece : Piece = program.piece.now in
     let same = sym counts ∙ fits.counts in
     let many : assignments ≡ length (places_from 0 piece.blocks) = ap (λ (one : Counts). one.assignments) same in
@@ -131,6 +132,7 @@ IsLexerOf-resumed program start steps conds assignments before noted scanner num
           left-state (λ one. list_any (stores one) (all_statements piece.blocks) ≡ true) scanner steps
           (subst (λ (left : Option Left). IfSome left (λ one. list_any (stores one.state) (all_statements piece.blocks) ≡ true)) left fits.state);
       left = renumbered scanner.state saved.left;
+      returns = returns;
     }
   where
     renumbered : (state : Option ℕ) → IfSome state (λ one. IsFrom start scanner) → IfSome state (λ one. IsFrom start (record scanner { numbering = numbering }))

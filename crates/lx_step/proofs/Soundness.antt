@@ -5,6 +5,7 @@ use Rattle.std.proofs.lemmas.List.{length-map, length-replicate}
 use Rattle.lx_ccode.specs.declared.piece.CodeBlock.{CodeBlock}
 use Rattle.lx_ccode.specs.declared.piece.CondCase.{CondCase}
 use Rattle.lx_ccode.specs.declared.piece.Piece.{Piece}
+use Rattle.lx_ccode.specs.declared.piece.StateCase.{StateCase}
 use Rattle.lx_ccode.specs.Statements.{all_statements, statement_count}
 use Rattle.lx_ccode.specs.Validity.{EachBlockHasSpelling, IsValid, NamesOneOf}
 use Rattle.lx_step.specs.declared.answers.StmtAt.{StmtAt}
@@ -17,7 +18,7 @@ use Rattle.lx_step.specs.Conds.{IsCond, cond_name}
 use Rattle.lx_step.specs.Firsts.{AreFirsts}
 use Rattle.lx_step.specs.Given.{Given, nothing_given}
 use Rattle.lx_step.specs.Held.{Held, first_cond, fresh}
-use Rattle.lx_step.specs.Left.{IsFrom, IsStored, Left, left_of}
+use Rattle.lx_step.specs.Left.{IsFrom, IsReturnOf, IsStored, Left, left_of}
 use Rattle.lx_step.specs.LexerParts.{IsLexerOf, IsProgram}
 use Rattle.lx_step.specs.Matches.{condition_of}
 use Rattle.lx_step.specs.Numbers.{IsNumberingOf}
@@ -46,6 +47,7 @@ IsProgram-valid program valid count assignments =
       unit = valid.unit;
       conds = subst (λ (conds : List (List ℕ)). AllByRecursion (NamesOneOf conds) (all_statements piece.blocks)) (sym valid.conds) valid.conds_named;
       assignments = assignments;
+      states = valid.states_differ;
     }
 
 -- ---- a fresh lexer
@@ -77,9 +79,9 @@ HasTables-fresh blocks scanner given numbering table count groups numbers same r
       };
     }
 
-pub IsLexerOf-fresh : (program : Program) (start : ℕ) (scanner : Scanner) (given : Given) (table : TagTable) (assigned : List StmtAt) (firsts : List First) (room : ℕ) → IsProgram program → HasTables program.piece.now.blocks scanner given
-    → scanner.cond ≡ 0 → scanner.state ≡ None → AreTags program.piece.now.blocks table → assigned ≡ [] → length firsts ≡ length table.tags.items → program.statements ≤ room → IsLexerOf program start scanner given table assigned firsts room
-IsLexerOf-fresh program start scanner given table assigned firsts room runs tables cond state tags none many roomy = record {
+pub IsLexerOf-fresh : (program : Program) (start : ℕ) (scanner : Scanner) (given : Given) (table : TagTable) (assigned : List StmtAt) (firsts : List First) (room : ℕ) (known : Option StateCase) → IsProgram program → HasTables program.piece.now.blocks scanner given
+    → scanner.cond ≡ 0 → scanner.state ≡ None → AreTags program.piece.now.blocks table → assigned ≡ [] → length firsts ≡ length table.tags.items → program.statements ≤ room → known ≡ None → IsLexerOf program start scanner given table assigned firsts room known
+IsLexerOf-fresh program start scanner given table assigned firsts room known runs tables cond state tags none many roomy unknown = record {
   runs = runs;
   tables = tables;
   cond = subst (IsCond program.piece.now.conds) (sym cond) (IsCond-zero program.piece.now.conds);
@@ -92,6 +94,7 @@ IsLexerOf-fresh program start scanner given table assigned firsts room runs tabl
   });
   state = subst (IsStored program.piece.now.blocks) (sym state) tt;
   left = subst (λ (state : Option ℕ). IfSome state (λ one. IsFrom start scanner)) (sym state) tt;
+  returns = subst (IsReturnOf program.piece.now.blocks) (sym unknown) tt;
 }
 
 -- what is held of the parts

@@ -1,10 +1,11 @@
 -- What is kept of a match that was left.
-use Rattle.std.specs.Prelude.{◌≡◌, ◌≤◌, ℕ, true, List, IfSome, Option}
+use Rattle.std.specs.Prelude.{◌≡◌, ◌≤◌, ℕ, true, List, IfSome, Option, Some}
 use Rattle.std.specs.List.{AllByRecursion, list_any}
 use Rattle.std.specs.Option.{option_map}
 use Rattle.lx_ccode.specs.declared.piece.CodeBlock.{CodeBlock}
+use Rattle.lx_ccode.specs.declared.piece.StateCase.{StateCase}
 use Rattle.lx_ccode.specs.Statements.{all_statements}
-use Rattle.lx_ccode.specs.States.{stores}
+use Rattle.lx_ccode.specs.States.{state_block, stores}
 use Rattle.lx_step.specs.declared.scanner.Scanner.{Scanner}
 
 -- the numbers of the machine that was left, beside its cursor and its condition; registers and histories by their places
@@ -43,6 +44,10 @@ pub record IsFrom (start : ℕ) (scanner : Scanner) : Type 0 where
 -- the state, where there is one, is one that a statement of the blocks stores
 abbrev pub IsStored : List CodeBlock → (state : Option ℕ) → Type 0
 IsStored blocks state = IfSome state (λ one. list_any (stores one) (all_statements blocks) ≡ true)
+
+-- the state, where there is one, stands with the block where a piece with these blocks goes on that stored it
+abbrev pub IsReturnOf : List CodeBlock → Option StateCase → Type 0
+IsReturnOf blocks known = IfSome known (λ case. state_block blocks case.state ≡ Some case.block)
 
 -- where a match was left, it stands behind its start
 abbrev pub IsLeftFrom : (start : ℕ) → Scanner → Type 0

@@ -1,10 +1,13 @@
 -- What holds of the parts of each lexer.
-use Rattle.std.specs.Prelude.{◌≡◌, ◌<◌, ◌≤◌, ◌⊎◌, ℕ, List, length, max, vec_capacity}
+use Rattle.std.specs.Prelude.{◌≡◌, ◌<◌, ◌≤◌, ◌⊎◌, ℕ, List, Option, length, max, vec_capacity}
 use Rattle.std.specs.Prelude.{Result, Ok, Err}
 use Rattle.lx_base.specs.declared.limits.TheConstants.{STATEMENT_LIMIT}
 use Rattle.lx_base.specs.declared.lists.Memory.{Memory}
 use Rattle.std.specs.List.{IsDistinct}
+use Rattle.lx_ccode.specs.declared.piece.StateCase.{StateCase}
+use Rattle.lx_ccode.specs.States.{states_from}
 use Rattle.lx_ccode.specs.Statements.{statement_count}
+use Rattle.lx_ccode.specs.Validity.{AreOnce}
 use Rattle.lx_step.specs.declared.answers.Outcome.{Outcome}
 use Rattle.lx_step.specs.declared.answers.Outcome.TheVariants as outcome
 use Rattle.lx_step.specs.declared.answers.StmtAt.{StmtAt}
@@ -16,7 +19,7 @@ use Rattle.lx_step.specs.Assigned.{same_place}
 use Rattle.lx_step.specs.Conds.{IsCond, NamesItsConds}
 use Rattle.lx_step.specs.Firsts.{AreFirsts}
 use Rattle.lx_step.specs.Given.{Given}
-use Rattle.lx_step.specs.Left.{IsLeftFrom, IsStored}
+use Rattle.lx_step.specs.Left.{IsLeftFrom, IsReturnOf, IsStored}
 use Rattle.lx_step.specs.Places.{AreRoomy, StaysIn, places_from, room_of}
 use Rattle.lx_step.specs.Steps.{HasTables}
 use Rattle.lx_step.specs.Tags.{AreTags}
@@ -29,8 +32,9 @@ pub record IsProgram (program : Program) : Type 0 where
   pub unit : (program.piece.now.unit ≡ 1) ⊎ ((program.piece.now.unit ≡ 2) ⊎ (program.piece.now.unit ≡ 4))
   pub conds : NamesItsConds program.piece.now
   pub assignments : program.assignments ≡ length (places_from 0 program.piece.now.blocks)
+  pub states : AreOnce (states_from 0 program.piece.now.blocks)
 
-pub record IsLexerOf (program : Program) (start : ℕ) (scanner : Scanner) (given : Given) (tags : TagTable) (assigned : List StmtAt) (firsts : List First) (room : ℕ) : Type 0 where
+pub record IsLexerOf (program : Program) (start : ℕ) (scanner : Scanner) (given : Given) (tags : TagTable) (assigned : List StmtAt) (firsts : List First) (room : ℕ) (known : Option StateCase) : Type 0 where
   pub runs : IsProgram program
   pub tables : HasTables program.piece.now.blocks scanner given
   pub cond : IsCond program.piece.now.conds scanner.cond
@@ -44,6 +48,8 @@ pub record IsLexerOf (program : Program) (start : ℕ) (scanner : Scanner) (give
   -- where a match was left, its state is one of the piece's, and it stands behind the start
   pub state : IsStored program.piece.now.blocks scanner.state
   pub left : IsLeftFrom start scanner
+  -- and where it goes on may be known
+  pub returns : IsReturnOf program.piece.now.blocks known
 
 -- what a run tells, or that memory ran out
 abbrev pub told : Result Outcome Memory → Outcome

@@ -12,7 +12,7 @@ ghost use Rattle.lx_step.specs.Entries.{Enters, entry_by};
 ghost use Rattle.lx_step.specs.Feeds.{Feed, feed_of};
 ghost use Rattle.lx_step.specs.Given.{Given};
 ghost use Rattle.lx_step.specs.Held.{is_on_histories};
-ghost use Rattle.lx_step.specs.Left.{IsFrom, IsLeftFrom, IsStored, left_of};
+ghost use Rattle.lx_step.specs.Left.{IsFrom, IsLeftFrom, IsReturnOf, IsStored, left_of};
 ghost use Rattle.lx_step.specs.LexerParts.{IsProgram, told};
 ghost use Rattle.lx_step.specs.Matches.{condition_of};
 ghost use Rattle.lx_step.specs.Numbers.{IsNumberingOf};
@@ -27,12 +27,12 @@ use crate::answers::{Outcome, StmtAt};
 use crate::matches::{Position, Program, entry, next_position, note, start_of, statement_at};
 use crate::scanner::Scanner;
 use crate::slots::Slots;
-use crate::states::state_block;
+use crate::states::{return_before, return_block};
 use crate::step::Names;
 use crate::tags::TagTable;
 use indexmap::IndexSet;
 use lx_base::Memory;
-use lx_ccode::Piece;
+use lx_ccode::{Piece, StateCase};
 use lx_window::{Refill, Window};
 
 /// What comes of a statement: the match goes on at a place, or it ends or is left.
@@ -42,18 +42,20 @@ pub(crate) enum Passed<'p> {
     Ends(Outcome),
 }
 
-/// Enters a match from a start on, in a window with this limit: goes on where it was left, or begins it.
+/// Enters a match from a start on, in a window with this limit: goes on where it was left, or begins it. The block of its state may be known.
 pub(crate) fn enter<'p>(
     piece: &'p Piece,
     scanner: &mut Scanner,
     assigned: &mut IndexSet<StmtAt>,
     steps: &mut u128,
+    known: Option<StateCase>,
     start: u64,
     limit: u64,
 ) -> Option<Position<'p>>
     requires cond { IsCond piece.now.conds scanner.old.cond }
     requires numbering { IsNumberingOf piece.now.blocks scanner.old.numbering }
     requires within { StaysIn piece.now.blocks assigned.old.keys }
+    requires returns { IsReturnOf piece.now.blocks known }
     ensures enters { Enters piece.now (entry_by piece.now scanner.old.cursor (condition_of piece.now scanner.old) assigned.old.keys (left_of scanner.old steps.old) start limit) result scanner.new steps.new assigned.new.keys }
     ensures tables { KeepsTables scanner.old scanner.new }
     ensures cond { scanner.new.cond ≡ scanner.old.cond }
@@ -70,7 +72,7 @@ pub(crate) fn enter<'p>(
         return entry(piece, scanner.cond);
     };
     scanner.come_back(limit);
-    let block = state_block(piece.blocks.as_slice(), state)?;
+    let block = return_block(piece.blocks.as_slice(), known, state)?;
     start_of(piece, block)
 }
 
@@ -85,7 +87,8 @@ pub(crate) fn leave(scanner: &mut Scanner, outcome: Outcome)
 }
 
 impl<'p> Program<'p> {
-    /// Makes the steps of a match over a window from a place on, until it ends or is left.
+    /// Makes the steps of a match over a window from a place on, until it ends or is left, and notes the block where it
+    /// goes on.
     pub(crate) fn advance<S: Refill>(
         &self,
         at: Option<Position<'p>>,
@@ -96,12 +99,14 @@ impl<'p> Program<'p> {
         slots: &mut Slots,
         assigned: &mut IndexSet<StmtAt>,
         steps: &mut u128,
+        known: &mut Option<StateCase>,
     ) -> Result<Outcome, Memory>
         requires program { IsProgram self.now }
         requires tags { AreTags self.now.piece.now.blocks tags.now }
         requires block { IfSome at (λ one. code_at self.now.piece.now.blocks (Some one.block) ≡ Some one.code.now) }
         requires parts { HasParts self.now.piece.now scanner.old slots.old assigned.old.keys (room_of assigned.old) }
         requires ready { ReadsWindow self.now.piece.now (S.unit src.old) w.old scanner.old }
+        requires returns { IsReturnOf self.now.piece.now.blocks known.old }
         ensures stopped { (entry : Point) → Enters self.now.piece.now entry at.entry scanner.old steps.old assigned.old.keys → HasStopped self.now.piece.now entry (feed_of (S.ahead src.old) w.old) (feed_of (S.ahead src.new) w.new) slots.old (told result) scanner.new slots.new steps.new assigned.new.keys }
         ensures parts { HasParts self.now.piece.now scanner.new slots.new assigned.new.keys (room_of assigned.new) }
         ensures ready { IfOk result (λ outcome. ReadsWindow self.now.piece.now (S.unit src.new) w.new scanner.new) }
@@ -111,6 +116,7 @@ impl<'p> Program<'p> {
         ensures fails { result ≡ Ok Outcome.ReadFailed → Rose (S.faults src.old) (S.faults src.new) }
         ensures source { KeepsSource (S.unit src.old) (S.unit src.new) (S.faults src.old) (S.faults src.new) (S.pauses src.old) (S.pauses src.new) }
         ensures memory { told result ≡ Outcome.Memory → list_any is_on_histories (all_statements self.now.piece.now.blocks) ≡ true }
+        ensures returns { IsReturnOf self.now.piece.now.blocks known.new }
     {
         let Some(mut at) = at else {
             return Ok(self.without_code(scanner.limit - w.start(), *steps));
@@ -118,7 +124,10 @@ impl<'p> Program<'p> {
         while *steps < self.most_steps(scanner.limit - w.start()) {
             match self.pass(at, w, src, tags, scanner, slots, assigned, steps)? {
                 Passed::On(next) => at = next,
-                Passed::Ends(outcome) => return Ok(outcome),
+                Passed::Ends(outcome) => {
+                    *known = return_before(self.piece.blocks.as_slice(), at);
+                    return Ok(outcome);
+                }
             }
         }
         Ok(Outcome::Loop)

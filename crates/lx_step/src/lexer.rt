@@ -25,10 +25,11 @@ use crate::saved::Saved;
 use crate::scanner::Scanner;
 use crate::sizes::groups_of_blocks;
 use crate::slots::Slots;
+use crate::states::return_of;
 use crate::tags::TagTable;
 use indexmap::IndexSet;
 use lx_base::Memory;
-use lx_ccode::{Piece, statements};
+use lx_ccode::{Piece, StateCase, statements};
 use lx_window::{Refill, Window};
 use std::alloc::Global;
 use std::marker::Model;
@@ -48,6 +49,7 @@ pub struct Lexer<'p> {
     tags: TagTable,
     assigned: IndexSet<StmtAt>,
     firsts: Vec<First>,
+    known: Option<StateCase>,
 }
 
 impl Drop for Lexer<'_> {
@@ -62,6 +64,7 @@ impl Drop for Lexer<'_> {
             tags: _,
             assigned: _,
             firsts: _,
+            known: _,
         } = self;
     }
 }
@@ -87,7 +90,7 @@ impl<'p> Model for Lexer<'p> {
       left = left_of lexer.scanner lexer.steps;
     } };
 
-    ghost invariant = { λ lexer. IsLexerOf lexer.program lexer.start lexer.scanner lexer.slots lexer.tags lexer.assigned.keys lexer.firsts.items (room_of lexer.assigned) };
+    ghost invariant = { λ lexer. IsLexerOf lexer.program lexer.start lexer.scanner lexer.slots lexer.tags lexer.assigned.keys lexer.firsts.items (room_of lexer.assigned) lexer.known };
 }
 
 impl<'p> Lexer<'p> {
@@ -128,6 +131,7 @@ impl<'p> Lexer<'p> {
             }; tags.tags.len()]?,
             tags,
             assigned: IndexSet::with_capacity(alloc, program.statements as usize)?,
+            known: None,
         })
     }
 
@@ -160,6 +164,7 @@ impl<'p> Lexer<'p> {
             &mut self.scanner,
             &mut self.assigned,
             &mut self.steps,
+            self.known,
             w.start(),
             w.limit(),
         );
@@ -173,6 +178,7 @@ impl<'p> Lexer<'p> {
                 &mut self.slots,
                 &mut self.assigned,
                 &mut self.steps,
+                &mut self.known,
             ),
         );
         note_firsts(
@@ -202,6 +208,7 @@ impl<'p> Lexer<'p> {
             tags,
             assigned,
             firsts,
+            known: _,
         } = self;
         Saved {
             alloc: program.alloc,
@@ -324,6 +331,7 @@ pub fn resume<'p>(piece: &'p Piece, saved: Saved) -> Lexer<'p>
     let mut tags = saved.tags;
     tags.clear();
     tags.list(blocks).unwrap();
+    let known = return_of(blocks, scanner.state);
     let mut firsts = saved.firsts;
     note_firsts(blocks, &tags, saved.assigned.as_slice(), &mut firsts);
     Lexer {
@@ -336,6 +344,7 @@ pub fn resume<'p>(piece: &'p Piece, saved: Saved) -> Lexer<'p>
         tags,
         assigned: saved.assigned,
         firsts,
+        known,
     }
 }
 

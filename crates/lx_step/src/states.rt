@@ -1,12 +1,16 @@
 //! The states that a piece stores, and where it goes on.
-ghost use Rattle.std.specs.Prelude.{◌≡◌, ◌^◌, ◌<◌, ℕ, List};
+ghost use Rattle.std.specs.Prelude.{◌≡◌, ◌^◌, ◌<◌, ℕ, List, Some};
 ghost use Rattle.std.specs.List.{list_any};
 ghost use Rattle.std.specs.Option.{option_or};
 ghost use Rattle.lx_ccode.specs.declared.piece.StateCase.{StateCase};
-ghost use Rattle.lx_ccode.specs.States.{block_of, state_block, states_in, stores, try_first};
+ghost use Rattle.lx_ccode.specs.Machine.{code_at};
+ghost use Rattle.lx_ccode.specs.States.{block_of, state_block, states_from, states_in, stores, try_first};
 ghost use Rattle.lx_ccode.specs.Statements.{all_statements};
+ghost use Rattle.lx_ccode.specs.Validity.{AreOnce};
+ghost use Rattle.lx_step.specs.Left.{IsReturnOf};
 
-use lx_ccode::{CodeBlock, Stmt};
+use crate::matches::{Position, statement_at};
+use lx_ccode::{CodeBlock, StateCase, Stmt};
 
 /// Whether a statement of the blocks stores the state.
 pub(crate) fn has_state(blocks: &[CodeBlock], state: u64) -> bool
@@ -41,8 +45,51 @@ fn stores(statement: &Stmt, state: u64) -> bool
     }
 }
 
+/// The state that is stored directly before a place, with the block where the piece goes on, if one is stored there.
+pub(crate) fn return_before(blocks: &[CodeBlock], at: Position<'_>) -> Option<StateCase>
+    requires once { AreOnce (states_from 0 blocks.now) }
+    requires block { code_at blocks.now (Some at.block) ≡ Some at.code.now }
+    ensures { IsReturnOf blocks.now result }
+{
+    let before = at.stmt.checked_sub(1)?;
+    let Some(Stmt::State(state)) = statement_at(at.code, before) else {
+        return None;
+    };
+    let goes_on = try_first(&at.code[at.stmt..]);
+    Some(StateCase {
+        state: *state,
+        block: if goes_on { at.block + 1 } else { at.block },
+    })
+}
+
+/// The state, with the block where the piece goes on, if it stores it.
+pub(crate) fn return_of(blocks: &[CodeBlock], state: Option<u64>) -> Option<StateCase>
+    ensures { IsReturnOf blocks.now result }
+{
+    let state = state?;
+    let block = state_block(blocks, state)?;
+    Some(StateCase { state, block })
+}
+
+/// The block where a piece that stored the state goes on, if it stores it. It is not looked for where it is known.
+pub(crate) fn return_block(
+    blocks: &[CodeBlock],
+    known: Option<StateCase>,
+    state: u64,
+) -> Option<u64>
+    requires { IsReturnOf blocks.now known }
+    ensures { result ≡ state_block blocks.now state }
+{
+    if let Some(case) = known
+        && case.state == state
+    {
+        return Some(case.block);
+    }
+    state_block(blocks, state)
+}
+
 /// The block where a piece that stored the state goes on, if it stores it.
-pub(crate) fn state_block(blocks: &[CodeBlock], state: u64) -> Option<u64>
+fn state_block(blocks: &[CodeBlock], state: u64) -> Option<u64>
     ensures { result ≡ state_block blocks.now state }
 {
     for (place, block) in blocks.iter().enumerate() {

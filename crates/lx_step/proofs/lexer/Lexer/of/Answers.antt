@@ -1,4 +1,4 @@
-use Rattle.std.proofs.Common.{◌∙◌, subst, List, arith, rules}
+use Rattle.std.proofs.Common.{◌∙◌, refl, subst, List, arith, rules}
 use Rattle.lx_ccode.specs.declared.piece.CodeBlock.{CodeBlock}
 use Rattle.lx_step.specs.Tags.{AreTags}
 use Rattle.lx_step.proofs.Soundness.{FreshTables, HasTables-fresh, IsLexerOf-fresh, fresh-is}
@@ -12,8 +12,8 @@ tables c =
 
 pub invariant_of-result : goal.invariant_of-result
 invariant_of-result c =
-    IsLexerOf-fresh _ _ _ _ _ _ _ _ c.requires (tables c).tables c.in_ok-new.ensures.cond c.in_ok-new.ensures.state (subst (λ (blocks : List CodeBlock). AreTags blocks c.list.new.self) c.as_slice-blocks.ensures c.in_ok-list.ensures.tags)
-    c.in_ok-with_capacity.ensures.empty (let long = c.in_ok-vec.ensures.len in let many = c.len-2.ensures in search (rules, long, many)) (omega (arith, c.in_ok-with_capacity.ensures.spare))
+    IsLexerOf-fresh _ _ _ _ _ _ _ _ _ c.requires (tables c).tables c.in_ok-new.ensures.cond c.in_ok-new.ensures.state (subst (λ (blocks : List CodeBlock). AreTags blocks c.list.new.self) c.as_slice-blocks.ensures c.in_ok-list.ensures.tags)
+    c.in_ok-with_capacity.ensures.empty (let long = c.in_ok-vec.ensures.len in let many = c.len-2.ensures in search (rules, long, many)) (omega (arith, c.in_ok-with_capacity.ensures.spare)) refl
 
 pub returns : goal.returns
 returns c = fresh-is c.args.program.piece.now c.in_ok-new.field-0 c.in_ok-new-2.field-0 _ c.in_ok-new.ensures.cursor c.in_ok-new.ensures.cond c.in_ok-new.ensures.state c.in_ok-with_capacity.ensures.empty (tables c)

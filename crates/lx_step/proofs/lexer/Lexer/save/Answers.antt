@@ -26,4 +26,4 @@ returns-clause-fits c =
       left = left_of inside.scanner inside.steps;
     } in
     subst (λ (held : Held). Fits held.piece kept) c.self.view_is
-    (Fits-own inside.program inside.start inside.steps _ inside.scanner inside.slots _ inside.assigned.keys _ _ kept c.self.invariant (ap length c.as_slice.ensures) refl refl refl)
+    (Fits-own inside.program inside.start inside.steps _ inside.scanner inside.slots _ inside.assigned.keys _ _ inside.known kept c.self.invariant (ap length c.as_slice.ensures) refl refl refl)

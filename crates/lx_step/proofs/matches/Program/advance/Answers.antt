@@ -17,6 +17,7 @@ loop-steps-init g c = record {
   block = subst (λ at. IfSome at (λ (one : Position). code_at c.args.self.now.piece.now.blocks (Some one.block) ≡ Some one.code.now)) c.in-Some.is c.requires.block;
   parts = c.requires.parts;
   ready = c.requires.ready;
+  returns = c.requires.returns;
   start_kept = record { same_unit = refl; same_start = refl; same_size = refl };
   source = record { same_unit = refl; faults_never_fall = omega arith; pauses_never_fall = omega arith };
 }
@@ -31,6 +32,7 @@ loop-steps-preserved g c = record {
   block = (Nears-passed c.args.self.now.piece.now.blocks c.in_ok-next.field-0 c.in-On.next c.loop-steps.steps c.pass.new.steps c.loop-steps.w.limit c.pass.new.w.limit c.in-On.is c.in_ok-next.ensures.nearer).block;
   parts = c.pass.ensures.parts;
   ready = c.in_ok-next.ensures.ready;
+  returns = c.loop-steps.invariant.returns;
   start_kept = KeepsStart-both c.loop-steps.invariant.start_kept c.pass.ensures.start_kept;
   source = KeepsSource-both c.loop-steps.invariant.source c.pass.ensures.source;
 }

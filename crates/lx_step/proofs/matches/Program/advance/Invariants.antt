@@ -4,6 +4,7 @@ use Rattle.lx_window.specs.Windows.{KeepsStart}
 use Rattle.lx_step.specs.Asking.{KeepsSource}
 use Rattle.lx_step.specs.Entries.{Enters}
 use Rattle.lx_step.specs.Feeds.{feed_of}
+use Rattle.lx_step.specs.Left.{IsReturnOf}
 use Rattle.lx_step.specs.Places.{room_of}
 use Rattle.lx_step.specs.Points.{Point}
 use Rattle.lx_step.specs.Ways.{HasParts, IsOnWay, ReadsWindow}
@@ -19,6 +20,7 @@ invariant-loop-steps l = λ c.
       block : code_at piece.blocks (Some c.at.block) ≡ Some c.at.code.now;
       parts : HasParts piece c.scanner c.slots c.assigned.keys (room_of c.assigned);
       ready : ReadsWindow piece (l.S.Refill.unit c.src) c.w c.scanner;
+      returns : IsReturnOf piece.blocks c.known;
       start_kept : KeepsStart c.fn.w c.w;
       source : KeepsSource (l.S.Refill.unit c.fn.src) (l.S.Refill.unit c.src) (l.S.Refill.faults c.fn.src) (l.S.Refill.faults c.src) (l.S.Refill.pauses c.fn.src) (l.S.Refill.pauses c.src);
     }
