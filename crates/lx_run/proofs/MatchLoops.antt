@@ -12,7 +12,6 @@ use Rattle.lx_step.specs.declared.answers.Outcome.TheVariants.{Rule, Jump, NoRul
 use Rattle.lx_step.specs.Advances.{IsAdvance}
 use Rattle.lx_step.specs.Feeds.{Feed, feed_of}
 use Rattle.lx_step.specs.Held.{Held}
-use Rattle.lx_step.specs.Saved.{Kept, resumed}
 use Rattle.lx_run.specs.Matches.{MatchEnd}
 use Rattle.lx_run.specs.Readings.{Reading}
 use Rattle.lx_run.specs.Texts.{Between, match_at}
@@ -28,10 +27,6 @@ Rose-none rose = let most = rose (omega arith) in omega (arith, most)
 pub some_answer : {A E : Type 0} (Holds : A → Type 0) (result : Result A E) → IfOk result Holds → OnErr result (Rose 0 0) → (answer : A) × Holds answer
 some_answer Holds (Ok answer) holds fails = (answer, holds)
 some_answer Holds (Err error) holds fails = absurd (Rose-none fails)
-
--- the lexer that was saved and resumed is the one that was left
-pub resumed-same : (held : Held) (piece : Piece) (saved : Kept) (again : Held) → held.piece ≡ piece → resumed held.piece saved ≡ held → again ≡ resumed piece saved → again ≡ held
-resumed-same held piece saved again same back resumes = resumes ∙ ap (λ one. resumed one saved) (sym same) ∙ back
 
 -- the chances of a match, by what the source has and does next
 pub feed_chances-source : (reading : Reading) (unit : ℕ) (leaves leaving : Bool) (start limit : ℕ) (source : MemorySource) (window : WindowView)

@@ -1,5 +1,5 @@
 //! The stream that a scanner is run over.
-ghost use Rattle.std.specs.Prelude.{◌≡◌, ◌+◌, ◌*◌, ◌++◌, IfOk, OnOk, replicate};
+ghost use Rattle.std.specs.Prelude.{◌≡◌, ◌+◌, ◌*◌, IfOk, replicate};
 ghost use Rattle.std.specs.List.{list_any};
 ghost use Rattle.lx_ccode.specs.Statements.{all_statements, is_state};
 ghost use Rattle.lx_run.specs.Streams as spec;
@@ -108,23 +108,9 @@ pub fn padded_length(bytes: u64, padding: u32, unit: u32) -> Result<u64, Memory>
         .ok_or(Memory)
 }
 
-/// Appends bytes 0 to the text.
-fn append_zeros(text: &mut Vec<u8>, count: u64) -> Result<(), Memory>
-    ensures { OnOk result (text.new.items ≡ text.old.items ++ replicate count 0) }
-{
-    let mut left = count;
-    while left > 0 {
-        text.push(0)?;
-        left -= 1;
-    }
-    Ok(())
-}
-
 /// So many bytes 0.
 pub fn zeros(alloc: Global, count: u64) -> Result<Vec<u8>, Memory>
     ensures { IfOk result (λ zeros. zeros.items ≡ replicate count 0) }
 {
-    let mut zeros = Vec::new(alloc);
-    append_zeros(&mut zeros, count)?;
-    Ok(zeros)
+    Ok(vec![in alloc; 0; count as usize]?)
 }

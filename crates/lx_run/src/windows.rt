@@ -17,7 +17,7 @@ use crate::line_sinks::{put_end_line_together, put_lines_together};
 use crate::streams::{InputEnd, ending_of};
 use lx_ccode::Piece;
 use lx_files::{PutAnswer, Sink};
-use lx_step::{Lexer, Outcome, resume};
+use lx_step::{Lexer, Outcome};
 use lx_window::{Fill, MemRefill, Window};
 
 /// A lexer behind a match, and how the match ended.
@@ -27,8 +27,8 @@ struct Matched<'p> {
     outcome: Outcome,
 }
 
-/// Makes a match over a window, which a source fills. Where the source leaves the scanner, the lexer is saved, one refill acts on the
-/// window, and the lexer is resumed.
+/// Makes a match over a window, which a source fills. Where the source leaves the scanner, one refill acts on the window, and the lexer
+/// comes back to the match.
 fn match_over<'p>(
     piece: &'p Piece,
     lexer: Lexer<'p>,
@@ -47,7 +47,6 @@ fn match_over<'p>(
         match lexer.advance(w, src) {
             Outcome::NeedFill => {
                 let _ = w.refill(src);
-                lexer = resume(piece, lexer.save());
             }
             outcome => return Matched { lexer, outcome },
         }
@@ -160,7 +159,7 @@ fn run_matches<'p, O: Sink>(
 /// soon as it is made, and one for the end of the run.
 ///
 /// The window is empty, and its buffer holds all units where the scanner asks for none. The source has given nothing, and leaves the
-/// scanner where the piece stores states; then the lexer is saved, one refill acts on the window, and the lexer is resumed. `Memory` may be
+/// scanner where the piece stores states; then one refill acts on the window, and the lexer comes back to the match. `Memory` may be
 /// answered, and no clause ties it to a cause.
 pub fn run_window<'p, O: Sink>(
     piece: &'p Piece,

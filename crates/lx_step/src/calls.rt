@@ -42,7 +42,8 @@ pub(crate) enum Passed<'p> {
     Ends(Outcome),
 }
 
-/// Enters a match from a start on, in a window with this limit: goes on where it was left, or begins it. The block of its state may be known.
+/// Enters a match from a start on, in a window with this limit: goes on where it was left, or begins it. The block where it goes on may
+/// be known.
 pub(crate) fn enter<'p>(
     piece: &'p Piece,
     scanner: &mut Scanner,
@@ -87,8 +88,8 @@ pub(crate) fn leave(scanner: &mut Scanner, outcome: Outcome)
 }
 
 impl<'p> Program<'p> {
-    /// Makes the steps of a match over a window from a place on, until it ends or is left, and notes the block where it
-    /// goes on.
+    /// Makes the steps of a match over a window from a place on, until it ends or is left. Where it is left, it is noted where
+    /// it goes on.
     pub(crate) fn advance<S: Refill>(
         &self,
         at: Option<Position<'p>>,

@@ -3,9 +3,8 @@ use Rattle.std.specs.Prelude.{IfSome, if◌then◌else◌}
 use Rattle.lx_ccode.specs.declared.piece.Piece.{Piece}
 use Rattle.lx_step.specs.Feeds.{feed_of}
 use Rattle.lx_step.specs.Held.{Held}
-use Rattle.lx_step.specs.Saved.{Fits}
 use Rattle.lx_window.specs.MemorySource.{ahead_of}
-use Rattle.lx_run.proofs.MatchLoops.{Rose-none, feed_chances-source, made-call, resumed-same, some_answer}
+use Rattle.lx_run.proofs.MatchLoops.{Rose-none, feed_chances-source, made-call, some_answer}
 use Rattle.lx_run.proofs.WindowMatches.{IsAdvance-room, IsResumed-left, IsUnderWay, IsUnderWay-begun, feed_chances}
 use Rattle.lx_run.proofs.windows.match_over.Goals as goal
 
@@ -44,13 +43,6 @@ refill-requires-clause-unit c =
     let way = c.loop-w.invariant.way some.0 some.1 some.2 some.3 in
     c.advance.ensures.source.same_unit ∙ c.loop-w.invariant.source_unit ∙ c.requires.stands.0 ∙ sym (c.advance.ensures.start_kept.same_unit ∙ way.at.unit_is)
 
-pub resume-lexer-requires-clause-fits : goal.resume-lexer-requires-clause-fits
-resume-lexer-requires-clause-fits c =
-    let some = c.requires.stands.1 in
-    let way = c.loop-w.invariant.way some.0 some.1 some.2 some.3 in
-    let call = c.in-NeedFill.ensures.advance way.fit in
-    subst (λ piece. Fits piece c.save.result) (call.piece ∙ way.same_piece) c.save.ensures.fits
-
 pub loop-w-smaller : goal.loop-w-smaller
 loop-w-smaller c =
     let piece = c.args.piece.now in
@@ -74,17 +66,14 @@ loop-w-preserved c =
     let call = c.in-NeedFill.ensures.advance one.fit in
     let filled = some_answer _ c.refill.result c.refill.ensures.refills c.refill.ensures.fails in
     let again = feed_of (ahead_of c.refill.new.src) c.refill.new.self in
-    let same = resumed-same c.advance.new.self c.args.piece.now c.save.result c.resume-lexer.result (call.piece ∙ one.same_piece) c.save.ensures.back c.resume-lexer.ensures in
     record {
-      piece_is = ap (λ (held : Held). held.piece) c.resume-lexer.ensures;
+      piece_is = call.piece ∙ one.same_piece;
       source_unit = c.refill.ensures.same_unit ∙ c.advance.ensures.source.same_unit ∙ c.loop-w.invariant.source_unit;
       start_is =
-          let begins = c.refill.ensures.start_kept.same_start ∙ c.advance.ensures.start_kept.same_start ∙ sym call.holds.start_is
-          ∙ ap (λ (held : Held). held.start) (sym same) in
-          always c.resume-lexer.result.left begins;
+          let begins = c.refill.ensures.start_kept.same_start ∙ c.advance.ensures.start_kept.same_start ∙ sym call.holds.start_is in
+          always c.advance.new.self.left begins;
       way = λ reading leaves between is.
           let way = c.loop-w.invariant.way reading leaves between is in
-          subst (λ held. IsUnderWay c.args.piece.now reading leaves between held again) (sym same)
           (IsResumed-left c.args.piece.now reading leaves between _ _ _ _ way (c.in-NeedFill.ensures.advance way.fit) again filled.0 filled.1).way;
     }
 
