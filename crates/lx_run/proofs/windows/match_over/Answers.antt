@@ -5,7 +5,7 @@ use Rattle.lx_step.specs.Feeds.{feed_of}
 use Rattle.lx_step.specs.Held.{Held}
 use Rattle.lx_window.specs.MemorySource.{ahead_of}
 use Rattle.lx_run.proofs.MatchLoops.{Rose-none, feed_chances-source, made-call, some_answer}
-use Rattle.lx_run.proofs.WindowMatches.{IsAdvance-room, IsResumed-left, IsUnderWay, IsUnderWay-begun, feed_chances}
+use Rattle.lx_run.proofs.WindowMatches.{IsAdvance-room, IsResumed-left, IsUnderWay-begun, feed_chances}
 use Rattle.lx_run.proofs.windows.match_over.Goals as goal
 
 always : {A P : Type 0} (option : Option A) → P → IfSome option (λ one. P)

@@ -1,4 +1,4 @@
-use Rattle.std.proofs.Common.{◌≡◌, ◌∙◌, ap, sym, subst, suc, ◌+◌, Bool, if◌then◌else◌, Some, arith}
+use Rattle.std.proofs.Common.{◌≡◌, ◌∙◌, ap, sym, subst, suc, Bool, if◌then◌else◌, Some, arith}
 use Rattle.lx_ccode.specs.States.{state_block}
 use Rattle.lx_step.proofs.Returns.{state_block-behind}
 use Rattle.lx_step.proofs.states.return_before.Goals as goal
