@@ -7,8 +7,9 @@
 # processor, with those that the system takes for the lines.
 #
 # Two scanners of keywords store states too. Their pieces have about 1,000 and 8,000 lines, and they are run with refills of one unit. The
-# time of a refill is that of such a run, less that of one with refills of 4,096 units, by the refills that it has more. It is to be at
-# most 1.5 times as long with the longer piece.
+# time of a refill is that of such a run, less that of one with refills of 4,096 units, by the refills that it has more. The two take 15
+# turns over the same input. The median of each counts, and is told with the least and the greatest, since others may use the same
+# processors. It is to be at most 1.5 times as long with the longer piece.
 #
 # Usage: bench/running.sh [refills], from anywhere: with the word the scanners of keywords alone. RE2C names the program (that of bin/re2c
 # where it is unset).
@@ -21,7 +22,7 @@ fi
 work=$(mktemp -d) || exit 1
 trap 'rm -rf "$work"' EXIT
 python3 - "$program" "$work" "${1:-}" <<'PYTHON'
-import os, re, subprocess, sys
+import os, re, statistics, subprocess, sys
 MEASURE = """
 import os, sys
 child = os.posix_spawn(sys.argv[1], sys.argv[1:], os.environ, file_actions=[(os.POSIX_SPAWN_OPEN, 1, os.devnull, os.O_WRONLY, 0)])
@@ -43,8 +44,8 @@ WORDS = b'the 25 quick brown foxes jump over 1 lazy dog '
 SIZE = 64 << 20
 # how many keywords make pieces of about 1,000 and 8,000 lines, and the most by which a refill may take longer with the longer one
 KEYWORDS, MOST_GROWTH = (6, 50), 1.5
-# how long the refills that are timed take at least, in seconds
-LONG_ENOUGH = 0.5
+# how long the refills of a turn take at least with the shorter one, in seconds, and how many turns there are
+LONG_ENOUGH, TURNS = 0.5, 15
 
 def statements(text):
     """The statements behind each label of an emitted text, in order, as they are spelled."""
@@ -83,17 +84,17 @@ def count(text, stream):
             at = where[test.group(2)] if unit <= int(test.group(1), 16) else at
     return made, cursor
 
-def compiled(options, rules):
-    """The emitted text of a scanner, which stands in s.c."""
+def compiled(options, rules, output='s.c'):
+    """The emitted text of a scanner, which stands in the output."""
     with open('s.re', 'w') as file:
         file.write('/*!re2c\n' + rules + '*/\n')
-    subprocess.run([program, '-i', *options, '-o', 's.c', 's.re'], check=True)
-    return open('s.c').read()
+    subprocess.run([program, '-i', *options, '-o', output, 's.re'], check=True)
+    return open(output).read()
 
-def measured(name, piece):
-    """The seconds of a run of s.c over in.txt, those of the system among them, and its peak, with refills of so many units."""
+def measured(name, piece, source='s.c'):
+    """The seconds of a scanner's run over in.txt, those of the system among them, and its peak, with refills of so many units."""
     # (the peak of a process counts that of the one that began it, so a small one begins it)
-    words = [program, '--x-run', 'in.txt', '--x-window', '4096', '--x-piece', str(piece), 's.c']
+    words = [program, '--x-run', 'in.txt', '--x-window', '4096', '--x-piece', str(piece), source]
     ran = subprocess.run([sys.executable, '-c', MEASURE, *words], stdout=subprocess.PIPE, check=True, text=True)
     status, user, system, peak = map(float, ran.stdout.split())
     if status:
@@ -114,27 +115,32 @@ def keywords(count):
             words.append(word)
     return words
 
-def least_seconds(name, piece):
-    """The seconds of the shortest of three runs."""
-    return min(measured(name, piece)[0] for _ in range(3))
-
-def refill_time(count):
-    """The lines of a scanner of so many keywords, and the seconds that a refill of one unit takes it."""
+def keyword_scanner(count):
+    """The file of a scanner of so many keywords, which stores states, and its lines."""
     rules = 're2c:eof = 0;\n$ { }\n' + ''.join(f'"{word}" {{ }}\n' for word in keywords(count)) + RULES
-    lines, size, name = compiled(['-f'], rules).count('\n'), 1 << 8, f'{count} keywords'
-    taken = 0.0
-    while taken < LONG_ENOUGH:
-        size *= 4
-        write_input(size)
-        taken = least_seconds(name, 1) - least_seconds(name, 4096)
-    return lines, taken / (size - size / 4096)
+    source = f'keywords{count}.c'
+    return source, compiled(['-f'], rules, source).count('\n')
+
+def refill_seconds(source):
+    """What a run over in.txt takes more with refills of one unit."""
+    return measured(source, 1, source)[0] - measured(source, 4096, source)[0]
 
 def refills():
     """Whether a refill takes about as long with a long piece as with a short one."""
-    (few, short), (many, long) = map(refill_time, KEYWORDS)
-    print(f'refills of one unit with stored states: {short * 1e6:.3g} us each in a piece of {few} lines, {long * 1e6:.3g} us in one of '
-          f'{many}: {long / short:.2f} times as long (at most {MOST_GROWTH})')
-    return long <= MOST_GROWTH * short
+    scanners = [keyword_scanner(count) for count in KEYWORDS]
+    size = 1 << 6
+    write_input(size)
+    while refill_seconds(scanners[0][0]) < LONG_ENOUGH:
+        size *= 2
+        write_input(size)
+    turns = [[refill_seconds(source) / (size - size / 4096) * 1e6 for source, _ in scanners] for _ in range(TURNS)]
+    medians = []
+    for (_, lines), times in zip(scanners, zip(*turns)):
+        medians.append(statistics.median(times))
+        print(f'refills of one unit with stored states, {lines} lines: {medians[-1]:.3g} us each ({min(times):.3g} to {max(times):.3g})')
+    growth = medians[1] / medians[0]
+    print(f'a refill takes {growth:.2f} times as long in the longer piece (at most {MOST_GROWTH}), over {size} units')
+    return growth <= MOST_GROWTH
 
 def run(name, options, rules):
     text = compiled(options, rules + RULES)
