@@ -9,7 +9,8 @@
 # Two scanners of keywords store states too. Their pieces have about 1,000 and 8,000 lines, and they are run with refills of one unit. The
 # time of a refill is that of such a run, less that of one with refills of 4,096 units, by the refills that it has more. The two take 15
 # turns over the same input. The median of each counts, and is told with the least and the greatest, since others may use the same
-# processors. It is to be at most 1.5 times as long with the longer piece.
+# processors. Where valgrind is there, its instructions are counted instead, over one input. It is to be at most 1.5 times as much with the
+# longer piece.
 #
 # Usage: bench/running.sh [refills], from anywhere: with the word the scanners of keywords alone. RE2C names the program (that of bin/re2c
 # where it is unset).
@@ -22,7 +23,7 @@ fi
 work=$(mktemp -d) || exit 1
 trap 'rm -rf "$work"' EXIT
 python3 - "$program" "$work" "${1:-}" <<'PYTHON'
-import os, re, statistics, subprocess, sys
+import os, re, shutil, statistics, subprocess, sys
 MEASURE = """
 import os, sys
 child = os.posix_spawn(sys.argv[1], sys.argv[1:], os.environ, file_actions=[(os.POSIX_SPAWN_OPEN, 1, os.devnull, os.O_WRONLY, 0)])
@@ -125,9 +126,26 @@ def refill_seconds(source):
     """What a run over in.txt takes more with refills of one unit."""
     return measured(source, 1, source)[0] - measured(source, 4096, source)[0]
 
+def refill_instructions(source):
+    """The instructions that a run over in.txt takes more with refills of one unit."""
+    counts = []
+    for piece in 1, 4096:
+        words = [program, '--x-run', 'in.txt', '--x-window', '4096', '--x-piece', str(piece), source]
+        ran = subprocess.run(['valgrind', '--tool=callgrind', '--callgrind-out-file=/dev/null', *words], stdout=subprocess.DEVNULL,
+                             stderr=subprocess.PIPE, check=True, text=True)
+        counts.append(int(re.search(r'Collected : (\d+)', ran.stderr).group(1)))
+    return counts[0] - counts[1]
+
 def refills():
-    """Whether a refill takes about as long with a long piece as with a short one."""
+    """Whether a refill takes about as much with a long piece as with a short one."""
     scanners = [keyword_scanner(count) for count in KEYWORDS]
+    if shutil.which('valgrind'):
+        size = 1 << 11
+        write_input(size)
+        few, many = (refill_instructions(source) / (size - size / 4096) for source, _ in scanners)
+        print(f'refills of one unit with stored states: {few:.0f} instructions each with {scanners[0][1]} lines, {many:.0f} with {scanners[1][1]}: '
+              f'{many / few:.2f} times as many (at most {MOST_GROWTH})')
+        return many <= MOST_GROWTH * few
     size = 1 << 6
     write_input(size)
     while refill_seconds(scanners[0][0]) < LONG_ENOUGH:
