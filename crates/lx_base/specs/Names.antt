@@ -1,7 +1,7 @@
 -- The seventeen spellings of a scanner's names: which are allowed, and which clash.
 use Rattle.std.specs.Prelude.{◌≡◌, ℕ, ◌<◌, ◌^◌, Bool, true, false, List, [], ◌∷◌, ◌++◌, Option, None, Some, length, codes, slice_index_or, ◌==◌, ◌||◌}
 use Rattle.std.specs.Global.{Vec}
-use Rattle.lx_base.specs.Letters.{IsIdentifier, IsSpelling, is_in_identifier, begins_with, equal_words, is_register, is_history_register}
+use Rattle.lx_base.specs.Letters.{IsIdentifier, IsSpelling, is_in_identifier, begins_with, equal_words, front_letters, is_register, is_history_register}
 
 -- the list of a scanner's spellings
 abbrev pub Spellings : Type 0
@@ -183,6 +183,16 @@ calls_primitive word =
 abbrev pub name_primitives : Spellings → Bool
 name_primitives names =
     calls_primitive (set_state names) || (calls_primitive (set_condition names) || (calls_primitive (append_offset names) || calls_primitive (append_negative names)))
+
+-- the word begins with the name of the table of sets
+abbrev pub begins_table : List ℕ → Bool
+begins_table word = equal_words (front_letters is_in_identifier word) (codes "yybm")
+
+-- a spelling of a variable begins with the name of the table of sets
+abbrev pub name_table : Spellings → Bool
+name_table names =
+    begins_table (cursor names) || (begins_table (limit names) || (begins_table (marker names) || (begins_table (context_marker names)
+    || (begins_table (current_unit names) || begins_table (last_accept names)))))
 
 -- what a user's tag may be called beside these spellings
 pub record IsTagName (names : Spellings) (word : List ℕ) : Type 0 where

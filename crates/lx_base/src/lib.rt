@@ -20,4 +20,4 @@ pub use lists::{ByteText, Memory, Sequence, Word, append_parts};
 pub use messages::message;
 pub use names::Names;
 pub use places::{FileName, FileNames, Pos, place_after};
-pub use settings::{EmptyPolicy, Enc, Job, Options, SurPolicy};
+pub use settings::{EmptyPolicy, Enc, Format, Job, Options, SurPolicy};

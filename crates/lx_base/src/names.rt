@@ -2,11 +2,11 @@
 ghost use Rattle.std.specs.Prelude.{◌≡◌, ◌↔◌, IsTrue, true, map, length, slice_index_or, []};
 ghost use Rattle.std.specs.List.{AllByRecursion};
 ghost use Rattle.lx_base.specs.Letters.{IsIdentifier, IsSpelling, begins_with, is_digit, is_history_numeral, is_history_register, is_letter_of, is_numeral, is_register, each_letter};
-ghost use Rattle.lx_base.specs.Names.{AreAllowed, DoNotClash, EachIsFree, EachIsNoRegister, EachIsShort, IsFree, IsNoRegister, IsTagName, append_negative, append_offset, calls, calls_primitive, condition_prefix, context_marker, current_unit, cursor, get_condition, get_state, label_prefix, last_accept, limit, marker, name_primitives, refill, set_condition, set_state, spelling_at, tag_prefix, unit_type, usual_names, variables};
+ghost use Rattle.lx_base.specs.Names.{AreAllowed, DoNotClash, EachIsFree, EachIsNoRegister, EachIsShort, IsFree, IsNoRegister, IsTagName, append_negative, append_offset, begins_table, calls, calls_primitive, condition_prefix, context_marker, current_unit, cursor, get_condition, get_state, label_prefix, last_accept, limit, marker, name_primitives, name_table, refill, set_condition, set_state, spelling_at, tag_prefix, unit_type, usual_names, variables};
 
 use crate::letters::{
-    Letters, are_distinct, are_letters, begins_with, equal_words, is_identifier, is_none_of,
-    is_spelling, is_words,
+    Letters, are_distinct, are_letters, begins_with, equal_words, front_letters, is_identifier,
+    is_none_of, is_spelling, is_words,
 };
 use crate::lists::ByteText;
 use std::marker::Model;
@@ -418,6 +418,26 @@ pub fn name_primitives(names: &Names) -> bool
     let offset = calls_primitive(append_offset(names));
     let negative = calls_primitive(append_negative(names));
     state || condition || offset || negative
+}
+
+/// Whether the word begins with `yybm`, the name of the table of sets.
+pub fn begins_table(word: &[u8]) -> bool
+    ensures { result ≡ begins_table word.now }
+{
+    equal_words(front_letters(word, Letters::Identifier), b"yybm")
+}
+
+/// Whether a spelling of a variable begins with `yybm`, the name of the table of sets.
+pub fn name_table(names: &Names) -> bool
+    ensures { result ≡ name_table names.now }
+{
+    let in_cursor = begins_table(cursor(names));
+    let in_limit = begins_table(limit(names));
+    let in_marker = begins_table(marker(names));
+    let in_context = begins_table(context_marker(names));
+    let in_unit = begins_table(current_unit(names));
+    let in_accept = begins_table(last_accept(names));
+    in_cursor || in_limit || in_marker || in_context || in_unit || in_accept
 }
 
 /// Whether a user's tag may be called so beside these spellings.

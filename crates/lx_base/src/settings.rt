@@ -14,6 +14,14 @@ pub enum Enc {
     Utf32,
 }
 
+/// A format of emitted text, which the head of a piece tells. Pieces of format 3 may have tests of sets of
+/// units, of single units, and switches over units.
+#[derive(Clone, Copy, Debug, PartialEq, Eq)]
+pub enum Format {
+    Two,
+    Three,
+}
+
 /// What becomes of the surrogates, 0xD800 to 0xDFFF, in a literal or a class: they are code points like
 /// others, each is replaced by U+FFFD, or they are refused.
 #[derive(Clone, Copy, PartialEq, Eq)]

@@ -1,21 +1,24 @@
 -- No begin mark begins in the lines of a piece, from those of its statements to that of its spellings.
-use Rattle.std.proofs.Common.{[], ◌++◌, ◌<◌, ◌^◌, ◌∷◌, ◌≡◌, Bool, List, None, Option, Some, arith, false, length, refl, subst, sym, true, ℕ}
+use Rattle.std.proofs.Common.{[], ◌%◌, ◌*◌, ◌++◌, ◌/◌, ◌<◌, ◌^◌, ◌∷◌, ◌≡◌, Bool, List, None, Option, Some, arith, false, length, refl, subst, suc, sym, true, zero, ℕ}
 use Rattle.std.specs.Fmt.{decimal}
 use Rattle.std.proofs.lemmas.Bool.{eqb-true, false≢true}
 use Rattle.std.specs.List.{AllByRecursion}
-use Rattle.std.specs.Prelude.{◌==◌, codes, if◌then◌else◌}
+use Rattle.std.specs.Prelude.{◌==◌, codes, if◌then◌else◌, nat_lt}
 use Rattle.lx_base.specs.Letters.{EachLetter, IsIdentifier, begins_with}
 use Rattle.lx_base.specs.Names.{AreAllowed, Spellings, append_negative, append_offset, condition_prefix, context_marker, current_unit, cursor, get_condition, get_state, label_prefix, last_accept, limit, marker, refill, set_condition, set_state, tag_prefix, unit_type}
 use Rattle.lx_base.specs.Text.{joined}
 use Rattle.lx_ccode.specs.Marks.{HasNoBegin, IsUnmarked, IsUnmarkedLine, begins_piece}
 use Rattle.lx_ccode.specs.Registers.{history_text, is_context, register_by, register_text}
-use Rattle.lx_ccode.specs.Text.{block_then, custom_then, escaped, goto_then, hexadecimal, line_by, line_then, pointer_then, statement_then, statements_then}
-use Rattle.lx_ccode.specs.Validity.{EachHasSpelling, HasSpelling, IsLine, IsLong, IsShort}
+use Rattle.lx_ccode.specs.Text.{block_then, custom_then, escaped, goto_then, group_text, hexadecimal, line_by, line_then, pointer_then, set_test_then, statement_then, statements_then, switch_cases_then, switch_then, units_then}
+use Rattle.lx_ccode.specs.Validity.{EachHasSpelling, HasSpelling, IsByte, IsLine, IsLong, IsShort, IsSwitchCase}
 use Rattle.lx_ccode.specs.declared.piece.LineMark.{LineMark}
+use Rattle.lx_ccode.specs.declared.piece.SwitchCase.{SwitchCase}
 use Rattle.lx_ccode.specs.declared.piece.Stmt.{Stmt}
-use Rattle.lx_ccode.specs.declared.piece.Stmt.TheVariants.{Peek, Skip, Backup, Restore, Accept, Set, Unset, Copy, MSet, MUnset, MCopy, IfUnit, IfAccept, IfEnd, State, Need, Try, Cond, Tag, Count, End, Back, Goto, Leave, Code, Jump}
+use Rattle.lx_ccode.specs.declared.piece.Stmt.TheVariants.{Peek, Skip, Backup, Restore, Accept, Set, Unset, Copy, MSet, MUnset, MCopy, IfUnit, IfIs, IfSet, IfAccept, IfEnd, State, Need, Try, Cond, Tag, Count, End, Back, Switch, Goto, Leave, Code, Jump}
 use Rattle.lx_ccode.specs.Wording.{Wording}
 use Rattle.lx_ccode.proofs.BeginMarks.{EachPasses, HasNoBegin-stop, Passes, Passes-all, Passes-joined, Passes-text, Passes-then, decimal_lacks, hexadecimal_lacks, identifier_lacks, is_no_slash, none_begins, none_begins-word, spelling_lacks, words_lack}
+use Rattle.lx_ccode.proofs.ReadTests.{mask_tells}
+use Rattle.lx_ccode.proofs.Tails.{case_words, last_words, switch_words, unit_words}
 use Rattle.lx_ccode.proofs.Words.{EachLetter-append}
 
 -- in none of the spellings of a statement a begin mark begins
@@ -102,6 +105,65 @@ jump_passes words number block behind pass h k =
     Passes-then (joined words (goto_then number block behind)) (goto_then number block behind) behind
     (Passes-joined words (goto_then number block behind) pass) (goto_passes number block behind h k)
 
+-- ---- tests of sets
+
+-- a number of more than one digit
+long_passes : (number : ℕ) → number < 2 ^ 64 → none_begins (hexadecimal number) ≡ true
+long_passes number h = none_begins-word (hexadecimal number) (hexadecimal_lacks number h)
+
+group_passes : (group : ℕ) → 256 * group < 2 ^ 64 → none_begins (group_text group) ≡ true
+group_passes zero h = refl
+group_passes (suc group) h =
+    none_begins-word (group_text (suc group)) (EachLetter-append is_no_slash (codes "0x") (hexadecimal (256 * suc group) ++ codes " + ") (refl, (refl, tt))
+    (EachLetter-append is_no_slash (hexadecimal (256 * suc group)) (codes " + ") (hexadecimal_lacks (256 * suc group) h) (refl, (refl, (refl, tt)))))
+
+set_passes : (wide : Bool) (wording : Wording) (set block : ℕ) (behind : List ℕ) → IsShort wording.number → NamesPass wording.names → IsShort set → IsLong block
+    → Passes (set_test_then wide wording set block behind) behind
+set_passes wide wording set block behind h pass k l = by wide where
+  group : none_begins (group_text (set / 8)) ≡ true
+  group = group_passes (set / 8) (omega (arith, k))
+
+  mask : none_begins (hexadecimal (2 ^ (set % 8))) ≡ true
+  mask = (let small = (mask_tells (set % 8) (omega arith)).1 in long_passes (2 ^ (set % 8)) (omega (arith, small)))
+
+  by : (wide : Bool) → Passes (set_test_then wide wording set block behind) behind
+  by false = jump_passes (codes "\tif (yybm[" ∷ group_text (set / 8) ∷ current_unit wording.names ∷ codes "] & 0x" ∷ hexadecimal (2 ^ (set % 8)) ∷ codes ")" ∷ []) wording.number block behind
+      (refl, (group, (pass.current_unit, (refl, (mask, (refl, tt)))))) h l
+  by true = jump_passes (codes "\tif (" ∷ current_unit wording.names ∷ codes " <= 0xFF && (yybm[" ∷ group_text (set / 8) ∷ current_unit wording.names ∷ codes "] & 0x" ∷ hexadecimal (2 ^ (set % 8)) ∷ codes "))" ∷ []) wording.number block behind
+      (refl, (pass.current_unit, (refl, (group, (pass.current_unit, (refl, (mask, (refl, tt)))))))) h l
+
+-- ---- switches over units
+
+units_pass : (units behind : List ℕ) → AllByRecursion IsByte units → Passes (units_then units behind) behind
+units_pass [] behind each = Passes-all behind
+units_pass (unit ∷ units) behind each =
+    let small : unit < 256 = each.0 in
+    Passes-then (units_then (unit ∷ units) behind) (units_then units behind) behind
+    (Passes-joined (unit_words unit) (units_then units behind) (refl, (long_passes unit (omega (arith, small)), (refl, tt))))
+    (units_pass units behind each.1)
+
+switch_cases_pass : (number : ℕ) (cases : List SwitchCase) (behind : List ℕ) → IsShort number → AllByRecursion IsSwitchCase cases
+    → Passes (switch_cases_then number cases behind) behind
+switch_cases_pass number [] behind h each = Passes-all behind
+switch_cases_pass number (case ∷ cases) behind h each =
+    let others : List ℕ = switch_cases_then number cases behind in
+    let end : List ℕ = joined (case_words number case.block) others in
+    Passes-then (switch_cases_then number (case ∷ cases) behind) (units_then case.units end) behind
+    (Passes-joined (codes "\t" ∷ []) (units_then case.units end) (refl, tt))
+    (Passes-then (units_then case.units end) end behind (units_pass case.units end each.0.bytes)
+    (Passes-then end others behind
+    (Passes-joined (case_words number case.block) others (refl, (short_passes number h, (refl, (number_passes case.block each.0.block, (refl, tt))))))
+    (switch_cases_pass number cases behind h each.1)))
+
+switch_passes : (wording : Wording) (cases : List SwitchCase) (last : ℕ) (behind : List ℕ) → IsShort wording.number → NamesPass wording.names
+    → AllByRecursion IsSwitchCase cases → IsLong last → Passes (switch_then wording cases last behind) behind
+switch_passes wording cases last behind h pass each l =
+    let end : List ℕ = joined (last_words wording.number last) behind in
+    let text : List ℕ = switch_cases_then wording.number cases end in
+    Passes-then (switch_then wording cases last behind) text behind (Passes-joined (switch_words wording) text (refl, (pass.current_unit, (refl, tt))))
+    (Passes-then text end behind (switch_cases_pass wording.number cases end h each)
+    (Passes-joined (last_words wording.number last) behind (refl, (short_passes wording.number h, (refl, (number_passes last l, (refl, tt)))))))
+
 pub line_passes : (line : Option LineMark) (behind : List ℕ) → IsLine line → IsUnmarkedLine line → Passes (line_then line behind) behind
 line_passes None behind h k = Passes-all behind
 line_passes (Some mark) behind h k = Passes-then (line_then (Some mark) behind) (escaped mark.file ++ (codes "\"\n" ++ behind)) behind
@@ -161,6 +223,9 @@ pointer_passes wording (MCopy history source) behind h pass k free = Passes-join
     (refl, (history_passes wording.names history pass k.0, (refl, (history_passes wording.names source pass k.1, (refl, tt)))))
 pointer_passes wording (IfUnit greatest block) behind h pass k free = jump_passes (codes "\tif (" ∷ current_unit wording.names ∷ codes " <= 0x" ∷ hexadecimal greatest ∷ codes ")" ∷ []) wording.number block behind
     (refl, (pass.current_unit, (refl, (hexadecimal_passes greatest k.0, (refl, tt))))) h k.1
+pointer_passes wording (IfIs unit block) behind h pass k free = jump_passes (codes "\tif (" ∷ current_unit wording.names ∷ codes " == 0x" ∷ hexadecimal unit ∷ codes ")" ∷ []) wording.number block behind
+    (refl, (pass.current_unit, (refl, (hexadecimal_passes unit k.0, (refl, tt))))) h k.1
+pointer_passes wording (IfSet set block) behind h pass k free = set_passes (nat_lt 1 wording.unit) wording set block behind h pass k.0 k.1
 pointer_passes wording (IfAccept accept block) behind h pass k free = jump_passes (codes "\tif (" ∷ last_accept wording.names ∷ codes " == " ∷ decimal accept ∷ codes ")" ∷ []) wording.number block behind
     (refl, (pass.last_accept, (refl, (short_passes accept k.0, (refl, tt))))) h k.1
 pointer_passes wording (IfEnd block) behind h pass k free = jump_passes (codes "\tif (" ∷ cursor wording.names ∷ codes " >= " ∷ limit wording.names ∷ codes ")" ∷ []) wording.number block behind
@@ -183,6 +248,7 @@ pointer_passes wording (End place register) behind h pass k free = Passes-joined
     (refl, (short_passes place k.0, (refl, (register_passes wording.names wording.ctx register pass k.1.1, (refl, tt)))))
 pointer_passes wording (Back register) behind h pass k free = Passes-joined (codes "\t" ∷ cursor wording.names ∷ codes " = " ∷ register_text wording.names wording.ctx register ∷ codes ";\n" ∷ []) behind
     (refl, (pass.cursor, (refl, (register_passes wording.names wording.ctx register pass k.1, (refl, tt)))))
+pointer_passes wording (Switch cases last) behind h pass k free = switch_passes wording cases last behind h pass k.0.each k.1
 pointer_passes wording (Goto block) behind h pass k free = Passes-joined (codes "\tgoto yy" ∷ decimal wording.number ∷ codes "_" ∷ decimal block ∷ codes ";\n" ∷ []) behind
     (refl, (short_passes wording.number h, (refl, (number_passes block k, (refl, tt)))))
 pointer_passes wording Leave behind h pass k free = Passes-joined (codes "\tgoto yy" ∷ decimal wording.number ∷ codes "_none;\n" ∷ []) behind

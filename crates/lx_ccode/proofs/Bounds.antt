@@ -3,10 +3,10 @@ use Rattle.std.proofs.Common.{◌≡◌, ℕ, zero, suc, ◌+◌, ◌≤◌, Boo
 use Rattle.std.specs.Prelude.{nat_lt, if◌then◌else◌, ◌==◌}
 use Rattle.std.proofs.lemmas.Bool.{ltb-true}
 use Rattle.lx_ccode.specs.declared.piece.Stmt.{Stmt}
-use Rattle.lx_ccode.specs.declared.piece.Stmt.TheVariants.{Peek, Skip, Backup, Restore, Accept, Set, Unset, Copy, MSet, MUnset, MCopy, IfUnit, IfAccept, IfEnd, State, Need, Try, Cond, Tag, Count, End, Back, Goto, Leave, Code, Jump}
+use Rattle.lx_ccode.specs.declared.piece.Stmt.TheVariants.{Peek, Skip, Backup, Restore, Accept, Set, Unset, Copy, MSet, MUnset, MCopy, IfUnit, IfIs, IfSet, IfAccept, IfEnd, State, Need, Try, Cond, Tag, Count, End, Back, Switch, Goto, Leave, Code, Jump}
 use Rattle.lx_ccode.specs.declared.piece.CodeBlock.{CodeBlock}
 use Rattle.lx_ccode.specs.declared.piece.Piece.{Piece}
-use Rattle.lx_ccode.specs.Machine.{Machine, Refill, more, no_more, Answer, refilled, left, units_of_all, units_of_answers, Next, goes_on, ends, jump, choose, code_at, come_back, peek, skip, if_unit, write_history, back, has_units, need, try, updated, step}
+use Rattle.lx_ccode.specs.Machine.{Machine, Refill, more, no_more, Answer, refilled, left, units_of_all, units_of_answers, Next, goes_on, ends, jump, choose, code_at, come_back, peek, skip, if_unit, switch_unit, write_history, back, has_units, need, try, updated, step}
 use Rattle.lx_ccode.specs.Runs.{Ended, fresh_machine, entry_block, unless_looped, gone_on, run, run_in, run_of}
 use Rattle.lx_ccode.specs.Schedules.{Schedule}
 
@@ -90,10 +90,15 @@ module _ (start last : ℕ) where
       record { cursor = (omega (arith, from), omega (arith, below)); marker = stays.marker; registers = stays.registers; limit = stays.limit }
   stays-skip false rest machine answers test stays = ends_within stays
 
-  stays-if_unit : (unit : Option ℕ) (greatest : ℕ) (target : Option (List Stmt)) (rest : List Stmt) (machine : Machine) (answers : List Answer)
-      → Stays start last machine answers → StaysAfter (if_unit unit greatest target rest machine answers)
-  stays-if_unit None greatest target rest machine answers stays = ends_within stays
-  stays-if_unit (Some unit) greatest target rest machine answers stays = stays-choose _ target rest machine answers stays
+  stays-if_unit : (unit : Option ℕ) (test : ℕ → Bool) (target : Option (List Stmt)) (rest : List Stmt) (machine : Machine) (answers : List Answer)
+      → Stays start last machine answers → StaysAfter (if_unit unit test target rest machine answers)
+  stays-if_unit None test target rest machine answers stays = ends_within stays
+  stays-if_unit (Some unit) test target rest machine answers stays = stays-choose _ target rest machine answers stays
+
+  stays-switch_unit : (unit : Option ℕ) (target : ℕ → Option (List Stmt)) (machine : Machine) (answers : List Answer)
+      → Stays start last machine answers → StaysAfter (switch_unit unit target machine answers)
+  stays-switch_unit None target machine answers stays = ends_within stays
+  stays-switch_unit (Some unit) target machine answers stays = stays-jump (target unit) machine answers stays
 
   stays-write_history : (history : ℕ) (content : List (Option ℕ)) (rest : List Stmt) (machine : Machine) (answers : List Answer)
       → Stays start last machine answers → StaysAfter (write_history history content rest machine answers)
@@ -138,7 +143,9 @@ module _ (start last : ℕ) where
     stays-step (MSet history) stays = stays-write_history history _ rest machine answers stays
     stays-step (MUnset history) stays = stays-write_history history _ rest machine answers stays
     stays-step (MCopy history source) stays = stays-write_history history _ rest machine answers stays
-    stays-step (IfUnit greatest block) stays = stays-if_unit machine.unit greatest _ rest machine answers stays
+    stays-step (IfUnit greatest block) stays = stays-if_unit machine.unit _ _ rest machine answers stays
+    stays-step (IfIs unit block) stays = stays-if_unit machine.unit _ _ rest machine answers stays
+    stays-step (IfSet set block) stays = stays-if_unit machine.unit _ _ rest machine answers stays
     stays-step (IfAccept accept block) stays = stays-choose _ _ rest machine answers stays
     stays-step (IfEnd block) stays = stays-choose _ _ rest machine answers stays
     stays-step (State state) stays = record { cursor = stays.cursor; marker = stays.marker; registers = stays.registers; limit = stays.limit }
@@ -150,6 +157,7 @@ module _ (start last : ℕ) where
     stays-step (Count groups) stays = record { cursor = stays.cursor; marker = stays.marker; registers = stays.registers; limit = stays.limit }
     stays-step (End place register) stays = record { cursor = stays.cursor; marker = stays.marker; registers = stays.registers; limit = stays.limit }
     stays-step (Back register) stays = stays-back (machine.registers register) rest machine answers (stays.registers register) stays
+    stays-step (Switch cases last) stays = stays-switch_unit machine.unit _ machine answers stays
     stays-step (Goto block) stays = stays-jump _ machine answers stays
     stays-step Leave stays = ends_within stays
     stays-step (Code rule line action) stays = ends_within stays

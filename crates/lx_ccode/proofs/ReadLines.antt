@@ -1,33 +1,62 @@
 -- Each statement that is written is read again.
-use Rattle.std.proofs.Common.{[], ◌++◌, ◌<◌, ◌^◌, ◌∙◌, ◌∷◌, ◌≡◌, Bool, List, None, Option, Some, ap, append_assoc, arith, false, length, refl, subst, sym, true, ℕ}
+use Rattle.std.proofs.Common.{[], ◌%◌, ◌*◌, ◌++◌, ◌+◌, ◌/◌, ◌<◌, ◌^◌, ◌∙◌, ◌∷◌, ◌≡◌, Bool, List, None, Option, Some, ap, append_assoc, arith, false, length, refl, subst, sym, true, ℕ}
 use Rattle.std.proofs.lemmas.Bool.{eqb-true, false≢true}
 use Rattle.std.specs.Fmt.{decimal}
-use Rattle.std.specs.Prelude.{◌==◌, ◌||◌, codes}
+use Rattle.std.specs.Prelude.{◌==◌, ◌||◌, codes, nat_lt}
 use Rattle.lx_base.specs.Letters.{EachLetter, IsIdentifier, begins_identifier, is_digit, is_in_identifier, is_in_spelling, is_hexadecimal, equal_words}
 use Rattle.lx_base.specs.Names.{AreAllowed, DoNotClash, Spellings, append_negative, append_offset, condition_prefix, current_unit, cursor, label_prefix, last_accept, limit, marker, refill, set_condition, set_state}
 use Rattle.lx_base.specs.Names.{name_primitives}
 use Rattle.lx_ccode.specs.declared.piece.LineMark.{LineMark}
 use Rattle.lx_ccode.specs.declared.piece.Stmt.{Stmt}
-use Rattle.lx_ccode.specs.declared.piece.Stmt.TheVariants.{Accept, Back, Backup, Code, Cond, Copy, Count, End, Goto, IfAccept, IfEnd, IfUnit, Jump, Leave, MCopy, MSet, MUnset, Need, Peek, Restore, Set, Skip, State, Tag, Try, Unset}
-use Rattle.lx_ccode.specs.Reading.{called, code_at, goto_at, if_at, mark_at, statement_at}
+use Rattle.lx_ccode.specs.declared.piece.Stmt.TheVariants.{Accept, Back, Backup, Code, Cond, Copy, Count, End, Goto, IfAccept, IfEnd, IfIs, IfSet, IfUnit, Jump, Leave, MCopy, MSet, MUnset, Need, Peek, Restore, Set, Skip, State, Switch, Tag, Try, Unset}
+use Rattle.lx_ccode.specs.Reading.{byte_at, called, code_at, goto_at, if_at, less_at, mark_at, set_test_at, statement_at, switch_at}
 use Rattle.lx_ccode.specs.Registers.{history_text, is_context, register_text}
 use Rattle.lx_ccode.specs.Statements.{has_register_one}
-use Rattle.lx_ccode.specs.Text.{custom_then, escaped, goto_then, hexadecimal, line_by, line_then, pointer_then, statement_then}
+use Rattle.lx_ccode.specs.Text.{custom_then, escaped, goto_then, hexadecimal, line_by, line_then, pointer_then, set_test_then, statement_then, switch_cases_then}
 use Rattle.lx_ccode.specs.Validity.{HasSpelling, IsLine}
 use Rattle.lx_ccode.specs.Wording.{Wording}
 use Rattle.lx_ccode.proofs.Assignments.{assigned-accept, assigned-back, assigned-backup, assigned-copy, assigned-count, assigned-end, assigned-mcopy, assigned-mtag, assigned-peek, assigned-restore, assigned-set, assigned-tag, assigned-unset, history_identifier, history_of-history, is_context-true, register_spelling, statement_at-assignment, statement_at-goto, statement_at-if, statement_at-skip}
 use Rattle.lx_ccode.proofs.Jumps.{goto_block-goto, goto_tail-goto}
-use Rattle.lx_ccode.proofs.ReadPrimitives.{primitive_if_at-end, primitive_if_at-need, primitives_free, some_decimal, some_history, some_identifier, statement_at-back_call, statement_at-backup_call, statement_at-named, statement_at-restore_call, statement_at-set_call, statement_at-skip_call, statement_at-unset_call, test_at-refill, test_at-sign}
+use Rattle.lx_ccode.proofs.ReadPrimitives.{primitive_if_at-end, primitive_if_at-need, primitives_free, some_decimal, some_history, some_identifier, statement_at-back_call, statement_at-backup_call, statement_at-named, statement_at-restore_call, statement_at-set_call, statement_at-skip_call, statement_at-unset_call, test_at-alone, test_at-refill, test_at-sign}
+use Rattle.lx_ccode.proofs.ReadSwitches.{switch_at-switch}
+use Rattle.lx_ccode.proofs.ReadTests.{asked_then, set_at-asked, set_sign}
 use Rattle.lx_ccode.proofs.Words.{EachLetter-append, EachLetter-identifier, EachLetter-right, EachLetter-spelling, behind-stop, behind-word, decimal_digits, decimal_first, decimal_identifier, decimal_value, drop-front, equal_words-false, equal_words-other, equal_words-self, file_at-escaped, front-stop, front-word, hexadecimal_digits, hexadecimal_value, is_false, take-front}
 
 -- ---- tests and jumps
 
 if_at-unit : (number : ℕ) (names : Spellings) (unit place : ℕ) (tail : List ℕ) → number < 2 ^ 64 → AreAllowed names → unit < 2 ^ 64 → place < 2 ^ 64
     → if_at names (current_unit names ++ (codes " <= 0x" ++ (hexadecimal unit ++ 41 ∷ goto_then number place tail))) ≡ (IfUnit unit place, false, tail)
-unfolding if_at
+unfolding if_at less_at
 if_at-unit number names unit place tail short allowed hu hs =
     let hy : EachLetter is_in_spelling (current_unit names) = EachLetter-spelling (current_unit names) (EachLetter-identifier (current_unit names) allowed.current_unit) in
     rw (behind-stop is_in_spelling (current_unit names) 32 (codes "<= 0x" ++ (hexadecimal unit ++ 41 ∷ goto_then number place tail)) hy refl, front-stop is_hexadecimal (hexadecimal unit) 41 (goto_then number place tail) (hexadecimal_digits unit hu) refl, behind-stop is_hexadecimal (hexadecimal unit) 41 (goto_then number place tail) (hexadecimal_digits unit hu) refl, hexadecimal_value unit hu, goto_block-goto number place tail short hs, goto_tail-goto number place tail short hs) refl
+
+if_at-is : (number : ℕ) (names : Spellings) (unit place : ℕ) (tail : List ℕ) → number < 2 ^ 64 → AreAllowed names → unit < 2 ^ 64 → place < 2 ^ 64
+    → if_at names (current_unit names ++ (codes " == 0x" ++ (hexadecimal unit ++ 41 ∷ goto_then number place tail))) ≡ (IfIs unit place, false, tail)
+unfolding if_at
+if_at-is number names unit place tail short allowed hu hs =
+    let hy : EachLetter is_in_spelling (current_unit names) = EachLetter-spelling (current_unit names) (EachLetter-identifier (current_unit names) allowed.current_unit) in
+    rw (behind-stop is_in_spelling (current_unit names) 32 (codes "== 0x" ++ (hexadecimal unit ++ 41 ∷ goto_then number place tail)) hy refl, front-stop is_hexadecimal (hexadecimal unit) 41 (goto_then number place tail) (hexadecimal_digits unit hu) refl, behind-stop is_hexadecimal (hexadecimal unit) 41 (goto_then number place tail) (hexadecimal_digits unit hu) refl, hexadecimal_value unit hu, goto_block-goto number place tail short hs, goto_tail-goto number place tail short hs) refl
+
+-- a set, of the group and the bit that its number has
+set_number : (set : ℕ) → 8 * (set / 8) + set % 8 ≡ set
+set_number set = omega arith
+
+if_at-set : (number : ℕ) (names : Spellings) (set place : ℕ) (tail : List ℕ) → number < 2 ^ 64 → AreAllowed names → set < 2 ^ 32 → place < 2 ^ 64
+    → if_at names (asked_then (set / 8) (current_unit names) (2 ^ (set % 8)) (goto_then number place tail)) ≡ (IfSet set place, false, tail)
+unfolding if_at set_test_at
+if_at-set number names set place tail short allowed hu hs =
+    let hy : EachLetter is_in_spelling (current_unit names) = EachLetter-spelling (current_unit names) (EachLetter-identifier (current_unit names) allowed.current_unit) in
+    let sign = set_sign (current_unit names) hy (set / 8) (2 ^ (set % 8)) (goto_then number place tail) (omega (arith, hu)) in
+    rw (sign.no_less, sign.no_more, sign.no_minus, sign.space, set_at-asked (current_unit names) hy (set / 8) (set % 8) (goto_then number place tail) (omega (arith, hu)) (omega arith), set_number set, goto_block-goto number place tail short hs, goto_tail-goto number place tail short hs) refl
+
+if_at-wide_set : (number : ℕ) (names : Spellings) (set place : ℕ) (tail : List ℕ) → number < 2 ^ 64 → AreAllowed names → set < 2 ^ 32 → place < 2 ^ 64
+    → if_at names (current_unit names ++ (codes " <= 0xFF && (" ++ asked_then (set / 8) (current_unit names) (2 ^ (set % 8)) (41 ∷ goto_then number place tail))) ≡ (IfSet set place, false, tail)
+unfolding if_at less_at set_test_at
+if_at-wide_set number names set place tail short allowed hu hs =
+    let hy : EachLetter is_in_spelling (current_unit names) = EachLetter-spelling (current_unit names) (EachLetter-identifier (current_unit names) allowed.current_unit) in
+    let asked : List ℕ = asked_then (set / 8) (current_unit names) (2 ^ (set % 8)) (41 ∷ goto_then number place tail) in
+    rw (behind-stop is_in_spelling (current_unit names) 32 (codes "<= 0xFF && (" ++ asked) hy refl, set_at-asked (current_unit names) hy (set / 8) (set % 8) (41 ∷ goto_then number place tail) (omega (arith, hu)) (omega arith), set_number set, goto_block-goto number place tail short hs, goto_tail-goto number place tail short hs) refl
 
 if_at-end : (number : ℕ) (names : Spellings) (place : ℕ) (tail : List ℕ) → number < 2 ^ 64 → AreAllowed names → place < 2 ^ 64
     → if_at names (cursor names ++ (codes " >= " ++ (limit names ++ 41 ∷ goto_then number place tail))) ≡ (IfEnd place, false, tail)
@@ -52,13 +81,19 @@ if_at-need names k tail allowed hk =
       behind-word is_in_spelling (decimal k) (codes ");\n" ++ tail) (EachLetter-spelling (decimal k) (decimal_identifier k hk)),
     ) refl
 
+-- behind the first digit of a number stands another one, or a parenthesis
+second_digit : (word tail : List ℕ) → EachLetter is_digit word → (byte_at tail 0 == 120) ≡ false → (byte_at (word ++ 41 ∷ tail) 1 == 120) ≡ false
+second_digit [] tail h q = q
+second_digit (digit ∷ []) tail h q = refl
+second_digit (digit ∷ next ∷ word) tail h q = is_false (next == 120) (λ e. false≢true (subst (λ (at : ℕ). is_digit at ≡ true) (eqb-true next 120 e) h.1.0))
+
 if_at-accept : (number : ℕ) (names : Spellings) (a place : ℕ) (tail : List ℕ) → number < 2 ^ 64 → AreAllowed names → a < 2 ^ 64 → place < 2 ^ 64
     → if_at names (last_accept names ++ (codes " == " ++ (decimal a ++ 41 ∷ goto_then number place tail))) ≡ (IfAccept a place, false, tail)
 unfolding if_at
 if_at-accept number names a place tail short allowed ha hs =
     let hy : EachLetter is_in_spelling (last_accept names) = EachLetter-spelling (last_accept names) (EachLetter-identifier (last_accept names) allowed.last_accept) in
     let t : List ℕ = codes "== " ++ (decimal a ++ 41 ∷ goto_then number place tail) in
-    rw (behind-stop is_in_spelling (last_accept names) 32 t hy refl, front-stop is_in_spelling (last_accept names) 32 t hy refl, equal_words-self (last_accept names), front-stop is_digit (decimal a) 41 (goto_then number place tail) (decimal_digits a ha) refl, behind-stop is_digit (decimal a) 41 (goto_then number place tail) (decimal_digits a ha) refl, decimal_value a ha, goto_block-goto number place tail short hs, goto_tail-goto number place tail short hs) refl
+    rw (behind-stop is_in_spelling (last_accept names) 32 t hy refl, second_digit (decimal a) (goto_then number place tail) (decimal_digits a ha) refl, front-stop is_in_spelling (last_accept names) 32 t hy refl, equal_words-self (last_accept names), front-stop is_digit (decimal a) 41 (goto_then number place tail) (decimal_digits a ha) refl, behind-stop is_digit (decimal a) 41 (goto_then number place tail) (decimal_digits a ha) refl, decimal_value a ha, goto_block-goto number place tail short hs, goto_tail-goto number place tail short hs) refl
 
 if_at-try : (number : ℕ) (names : Spellings) (place : ℕ) (tail : List ℕ) → number < 2 ^ 64 → AreAllowed names → place < 2 ^ 64
     → if_at names (refill names ++ (codes "() == 0)" ++ goto_then number place tail)) ≡ (Try place, false, tail)
@@ -106,6 +141,25 @@ statement_at-jump custom names (c ∷ front_word) tail h = statement_at-goto cus
 IsIdentifier-append : (front_word word : List ℕ) → IsIdentifier front_word → EachLetter is_in_identifier word → IsIdentifier (front_word ++ word)
 IsIdentifier-append [] word h k = absurd h
 IsIdentifier-append (c ∷ front_word) word h k = (h.0, EachLetter-append is_in_identifier front_word word h.1 k)
+
+statement_at-switch : (custom : Bool) (names : Spellings) (b : List ℕ) → statement_at custom names (codes "\tswitch (" ++ b) ≡ switch_at b
+unfolding statement_at
+statement_at-switch custom names b = refl
+
+statement_at-set : (custom wide : Bool) (wording : Wording) (set block : ℕ) (tail : List ℕ) → wording.number < 2 ^ 64 → AreAllowed wording.names → set < 2 ^ 32 → block < 2 ^ 64
+    → statement_at custom wording.names (set_test_then wide wording set block tail) ≡ (IfSet set block, false, tail)
+statement_at-set custom false wording set block tail short allowed hu hs =
+    let hy : EachLetter is_in_spelling (current_unit wording.names) = EachLetter-spelling (current_unit wording.names) (EachLetter-identifier (current_unit wording.names) allowed.current_unit) in
+    let asked : List ℕ = asked_then (set / 8) (current_unit wording.names) (2 ^ (set % 8)) (goto_then wording.number block tail) in
+    let sign = set_sign (current_unit wording.names) hy (set / 8) (2 ^ (set % 8)) (goto_then wording.number block tail) (omega (arith, hu)) in
+    statement_at-if custom wording.names asked ∙ test_at-alone custom wording.names asked sign.space
+    ∙ if_at-set wording.number wording.names set block tail short allowed hu hs
+statement_at-set custom true wording set block tail short allowed hu hs =
+    let hy : EachLetter is_in_spelling (current_unit wording.names) = EachLetter-spelling (current_unit wording.names) (EachLetter-identifier (current_unit wording.names) allowed.current_unit) in
+    let asked : List ℕ = asked_then (set / 8) (current_unit wording.names) (2 ^ (set % 8)) (41 ∷ goto_then wording.number block tail) in
+    statement_at-if custom wording.names (current_unit wording.names ++ (codes " <= 0xFF && (" ++ asked))
+    ∙ test_at-sign custom wording.names (current_unit wording.names) 60 (codes "= 0xFF && (" ++ asked) hy refl
+    ∙ if_at-wide_set wording.number wording.names set block tail short allowed hu hs
 
 -- ---- calls
 
@@ -231,6 +285,11 @@ statement_at-pointer custom wording (MCopy k j) tail short allowed clash free ke
 statement_at-pointer custom wording (IfUnit u statement) tail short allowed clash free kept h = statement_at-if custom wording.names (current_unit wording.names ++ (codes " <= 0x" ++ (hexadecimal u ++ 41 ∷ goto_then wording.number statement tail)))
     ∙ test_at-sign custom wording.names (current_unit wording.names) 60 (codes "= 0x" ++ (hexadecimal u ++ 41 ∷ goto_then wording.number statement tail)) (EachLetter-spelling (current_unit wording.names) (EachLetter-identifier (current_unit wording.names) allowed.current_unit)) refl
     ∙ if_at-unit wording.number wording.names u statement tail short allowed (omega arith) h.1
+statement_at-pointer custom wording (IfIs u statement) tail short allowed clash free kept h = statement_at-if custom wording.names (current_unit wording.names ++ (codes " == 0x" ++ (hexadecimal u ++ 41 ∷ goto_then wording.number statement tail)))
+    ∙ test_at-sign custom wording.names (current_unit wording.names) 61 (codes "= 0x" ++ (hexadecimal u ++ 41 ∷ goto_then wording.number statement tail)) (EachLetter-spelling (current_unit wording.names) (EachLetter-identifier (current_unit wording.names) allowed.current_unit)) refl
+    ∙ if_at-is wording.number wording.names u statement tail short allowed (omega arith) h.1
+statement_at-pointer custom wording (IfSet set statement) tail short allowed clash free kept h =
+    statement_at-set custom (nat_lt 1 wording.unit) wording set statement tail short allowed h.0 h.1
 statement_at-pointer custom wording (IfAccept a statement) tail short allowed clash free kept h = statement_at-if custom wording.names (last_accept wording.names ++ (codes " == " ++ (decimal a ++ 41 ∷ goto_then wording.number statement tail)))
     ∙ test_at-sign custom wording.names (last_accept wording.names) 61 (codes "= " ++ (decimal a ++ 41 ∷ goto_then wording.number statement tail)) (EachLetter-spelling (last_accept wording.names) (EachLetter-identifier (last_accept wording.names) allowed.last_accept)) refl
     ∙ if_at-accept wording.number wording.names a statement tail short allowed (omega arith) h.1
@@ -273,6 +332,9 @@ statement_at-pointer custom wording (Back k) tail short allowed clash free kept 
     let hk : k < 2 ^ 64 = omega arith in
     statement_at-assignment custom wording.names (cursor wording.names) (register_text wording.names wording.ctx k) tail allowed.cursor.1 (register_spelling wording.names (is_context wording.ctx k) k hk allowed)
     ∙ rw (assigned-back wording.names (is_context wording.ctx k) k hk clash (is_context-true wording.ctx k)) refl
+statement_at-pointer custom wording (Switch cases last) tail short allowed clash free kept h =
+    statement_at-switch custom wording.names (current_unit wording.names ++ (codes ") {\n" ++ switch_cases_then wording.number cases (codes "\tdefault:" ++ goto_then wording.number last (codes "\t}\n" ++ tail))))
+    ∙ switch_at-switch wording.number wording.names cases last tail short allowed h.0.each h.1
 statement_at-pointer custom wording (Goto statement) tail short allowed clash free kept h = statement_at-goto custom wording.names 121 (codes "y" ++ (decimal wording.number ++ 95 ∷ (decimal statement ++ 59 ∷ 10 ∷ tail))) refl refl
     ∙ goto_at-goto wording.number wording.names statement tail short h
 statement_at-pointer custom wording Leave tail short allowed clash free kept h = statement_at-goto custom wording.names 121 (codes "y" ++ (decimal wording.number ++ (codes "_none;\n" ++ tail))) refl refl

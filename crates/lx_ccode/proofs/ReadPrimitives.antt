@@ -5,7 +5,7 @@ use Rattle.std.proofs.lemmas.Fmt.{decimal_is_IsNumeral}
 use Rattle.std.proofs.lemmas.List.{reverse-append, reverse-reverse}
 use Rattle.std.specs.Fmt.{decimal}
 use Rattle.std.specs.Prelude.{◌==◌, ◌||◌, codes, if◌then◌else◌}
-use Rattle.lx_base.specs.Letters.{EachLetter, IsIdentifier, IsSpelling, begins_with, equal_words, is_digit, is_in_identifier, is_in_spelling}
+use Rattle.lx_base.specs.Letters.{EachLetter, IsIdentifier, IsSpelling, begins_with, equal_words, is_digit, is_in_identifier, is_in_spelling, after_letters}
 use Rattle.lx_base.specs.Names.{AreAllowed, DoNotClash, Spellings, append_negative, append_offset, refill, set_condition, set_state, tag_prefix}
 use Rattle.lx_base.specs.Names.{calls_name, calls_primitive, name_primitives}
 use Rattle.lx_ccode.specs.declared.piece.Stmt.TheVariants.{Back, Backup, IfEnd, Need, Restore, Set, Skip, Unset}
@@ -213,11 +213,26 @@ statement_at-back_call names flag register tail h allowed clash one =
 
 -- ---- tests
 
+or-true : (flag : Bool) → (flag || true) ≡ true
+or-true true = refl
+or-true false = refl
+
 -- a word before `<` or `=` is none of the input
 primitive_if_at-sign : (names : Spellings) (word : List ℕ) (sign : ℕ) (tail : List ℕ) → EachLetter is_in_spelling word → ((sign == 60) || (sign == 61)) ≡ true
     → primitive_if_at names (word ++ 32 ∷ sign ∷ tail) ≡ if_at names (word ++ 32 ∷ sign ∷ tail)
 unfolding primitive_if_at
 primitive_if_at-sign names word sign tail h is = rw (behind-stop is_in_spelling word 32 (sign ∷ tail) h refl, is) refl
+
+-- nor is one before a sign that stands alone
+primitive_if_at-alone : (names : Spellings) (bytes : List ℕ) → (byte_at (after_letters is_in_spelling bytes) 2 == 32) ≡ true → primitive_if_at names bytes ≡ if_at names bytes
+unfolding primitive_if_at
+primitive_if_at-alone names bytes is =
+    rw (is, or-true ((byte_at (after_letters is_in_spelling bytes) 1 == 60) || (byte_at (after_letters is_in_spelling bytes) 1 == 61))) refl
+
+pub test_at-alone : (custom : Bool) (names : Spellings) (bytes : List ℕ) → (byte_at (after_letters is_in_spelling bytes) 2 == 32) ≡ true
+    → test_at custom names bytes ≡ if_at names bytes
+test_at-alone false names bytes is = refl
+test_at-alone true names bytes is = primitive_if_at-alone names bytes is
 
 pub test_at-sign : (custom : Bool) (names : Spellings) (word : List ℕ) (sign : ℕ) (tail : List ℕ) → EachLetter is_in_spelling word
     → ((sign == 60) || (sign == 61)) ≡ true → test_at custom names (word ++ 32 ∷ sign ∷ tail) ≡ if_at names (word ++ 32 ∷ sign ∷ tail)
@@ -247,6 +262,12 @@ first_spelled : (word tail : List ℕ) → IsSpelling word → is_in_spelling (b
 first_spelled [] tail h = absurd (h.0 refl)
 first_spelled (letter ∷ word) tail h = h.1.0
 
+-- behind the first letter of a spelling stands another one, or a parenthesis
+second_spelled : (word rest : List ℕ) → IsSpelling word → (byte_at (word ++ 40 ∷ rest) 1 == 32) ≡ false
+second_spelled [] rest h = absurd (h.0 refl)
+second_spelled (letter ∷ []) rest h = refl
+second_spelled (letter ∷ next ∷ word) rest h = no_sign 32 next refl h.1.1.0
+
 pub primitive_if_at-need : (names : Spellings) (k : ℕ) (tail : List ℕ) → AreAllowed names → k < 2 ^ 64
     → primitive_if_at names (codes "YYLESSTHAN(" ++ (decimal k ++ (codes ")) " ++ (refill names ++ 40 ∷ (decimal k ++ (codes ");\n" ++ tail)))))) ≡ (Need k, false, tail)
 unfolding primitive_if_at
@@ -258,6 +279,7 @@ primitive_if_at-need names k tail allowed hk =
       behind-word is_in_spelling (decimal k) (codes ")) " ++ call) spelled,
       no_sign 60 (byte_at call 0) refl first,
       no_sign 61 (byte_at call 0) refl first,
+      second_spelled (refill names) (decimal k ++ (codes ");\n" ++ tail)) allowed.refill,
       behind-word is_in_spelling (refill names) (40 ∷ (decimal k ++ (codes ");\n" ++ tail))) allowed.refill.1,
       behind-word is_in_spelling (decimal k) (codes ");\n" ++ tail) spelled,
       front-stop is_digit (decimal k) 41 (codes ") " ++ call) (decimal_digits k hk) refl,

@@ -1,29 +1,32 @@
 -- Each part of a piece that is written is read again.
-use Rattle.std.proofs.Common.{[], ◌++◌, ◌+◌, ◌<◌, ◌^◌, ◌∙◌, ◌∷◌, ◌≡◌, ◌≤◌, Bool, List, None, Option, Some, ap, append_assoc, arith, drop, false, length, refl, subst, suc, sym, true, zero, ℕ}
+use Rattle.std.proofs.Common.{[], ◌++◌, ◌<◌, ◌^◌, ◌∙◌, ◌∷◌, ◌≡◌, ◌≤◌, Bool, List, None, Option, Some, arith, drop, false, length, refl, subst, suc, sym, true, zero, ℕ}
 use Rattle.std.proofs.lemmas.Bool.{eqb-true, false≢true}
 use Rattle.std.proofs.lemmas.List.{append-nil}
 use Rattle.std.specs.Fmt.{decimal}
-use Rattle.std.specs.Prelude.{◌==◌, ◌||◌, codes, if◌then◌else◌}
-use Rattle.lx_base.specs.Letters.{EachLetter, IsIdentifier, begins_identifier, is_digit, is_in_identifier, is_in_spelling, after_letters, front_letters, is_in_type}
-use Rattle.lx_base.specs.Names.{AreAllowed, DoNotClash, EachIsShort, IsWords, Spellings, condition_prefix, current_unit, get_condition, get_state, label_prefix, last_accept, unit_type}
+use Rattle.std.specs.Prelude.{◌==◌, ◌||◌, codes, if◌then◌else◌, nat_lt}
+use Rattle.lx_base.specs.Letters.{EachLetter, IsIdentifier, is_digit, is_in_identifier, is_in_spelling, after_letters, front_letters, is_in_type}
+use Rattle.lx_base.specs.Names.{AreAllowed, DoNotClash, EachIsShort, IsWords, Spellings, condition_prefix, current_unit, get_condition, get_state, last_accept, unit_type}
 use Rattle.lx_base.specs.Names.{name_primitives}
-use Rattle.lx_base.specs.Text.{joined}
-use Rattle.lx_ccode.specs.declared.piece.CodeBlock.{CodeBlock}
 use Rattle.lx_ccode.specs.declared.piece.CondCase.{CondCase}
 use Rattle.lx_ccode.specs.declared.piece.LineMark.{LineMark}
 use Rattle.lx_ccode.specs.declared.piece.StateCase.{StateCase}
 use Rattle.lx_ccode.specs.declared.piece.Stmt.{Stmt}
-use Rattle.lx_ccode.specs.declared.piece.Stmt.TheVariants.{Code, Tag}
-use Rattle.lx_ccode.specs.Reading.{begins_statement, block_at, blocks_at, byte_at, code_block_at, cond_cases_at, cond_switch_at, declarations_at, eof_at, is_tab, line_at, names_at, state_cases_at, state_switch_at, statements_at}
-use Rattle.lx_ccode.specs.Statements.{statement_count}
-use Rattle.lx_ccode.specs.Text.{block_then, blocks_then, cond_cases_then, cond_switch_then, declarations_then, eof_then, goto_then, label_then, line_by, line_then, names_then, start_then, state_cases_then, state_switch_then, statement_then, statements_then}
-use Rattle.lx_ccode.specs.Validity.{EachBlockHasSpelling, EachHasSpelling, IsLabel, IsLine}
+use Rattle.lx_ccode.specs.declared.piece.Stmt.TheVariants.{Code, IfSet, Tag}
+use Rattle.lx_ccode.specs.Reading.{begins_statement, block_at, byte_at, cond_cases_at, cond_switch_at, declarations_at, eof_at, is_tab, line_at, names_at, state_cases_at, state_switch_at, statements_at}
+use Rattle.lx_ccode.specs.Statements.{is_ending}
+use Rattle.lx_ccode.specs.Text.{cond_cases_then, cond_switch_then, declarations_then, eof_then, goto_then, line_by, line_then, names_then, set_test_then, start_then, state_cases_then, state_switch_then, statement_then, statements_then}
+use Rattle.lx_ccode.specs.Validity.{EachHasSpelling, IsLine, ends_once}
 use Rattle.lx_ccode.specs.Wording.{Wording}
 use Rattle.lx_ccode.proofs.Jumps.{goto_block-goto, goto_tail-goto}
-use Rattle.lx_ccode.proofs.ReadLines.{identifier_no_sign, mark_at-line, names_context, statement_at-statement}
+use Rattle.lx_ccode.proofs.ReadLines.{mark_at-line, names_context, statement_at-statement}
+use Rattle.lx_ccode.proofs.ReadTables.{NoTable}
 use Rattle.lx_ccode.proofs.Words.{EachLetter-append, EachLetter-from, EachLetter-identifier, behind-stop, behind-word, decimal_digits, decimal_first, decimal_identifier, decimal_value, drop-front, front-stop, front-word, is_false, is_in_type-identifier, or-left, take-front}
 
 -- ---- statements
+
+begins_statement-set : (wide : Bool) (wording : Wording) (set block : ℕ) (tail : List ℕ) → begins_statement (set_test_then wide wording set block tail) ≡ true
+begins_statement-set false wording set block tail = refl
+begins_statement-set true wording set block tail = refl
 
 begins_statement-line : (custom : Bool) (wording : Wording) (statement : Stmt) (tail : List ℕ)
     → begins_statement (line_by custom wording statement tail) ≡ true
@@ -31,11 +34,13 @@ begins_statement-line false wording (Tag word true k) tail = refl
 begins_statement-line false wording (Tag word false k) tail = refl
 begins_statement-line false wording (Code k None word) tail = refl
 begins_statement-line false wording (Code k (Some l) word) tail = refl
+begins_statement-line false wording (IfSet set block) tail = begins_statement-set (nat_lt 1 wording.unit) wording set block tail
 begins_statement-line false wording _ tail = refl
 begins_statement-line true wording (Tag word true k) tail = refl
 begins_statement-line true wording (Tag word false k) tail = refl
 begins_statement-line true wording (Code k None word) tail = refl
 begins_statement-line true wording (Code k (Some l) word) tail = refl
+begins_statement-line true wording (IfSet set block) tail = begins_statement-set (nat_lt 1 wording.unit) wording set block tail
 begins_statement-line true wording _ tail = refl
 
 pub begins_statement-statement : (wording : Wording) (statement : Stmt) (tail : List ℕ)
@@ -46,87 +51,36 @@ abbrev pub any_names_context : Bool → List Stmt → Bool
 any_names_context ctx [] = false
 any_names_context ctx (s ∷ statements) = names_context ctx s || any_names_context ctx statements
 
-statements_at-statements : (fuel : ℕ) (wording : Wording) (statements : List Stmt) (tail : List ℕ) → wording.number < 2 ^ 64
-    → AreAllowed wording.names → DoNotClash wording.names → (wording.custom ≡ true → name_primitives wording.names ≡ false) → EachHasSpelling wording.names statements → length statements ≤ fuel → begins_statement tail ≡ false
+or-no : (flag : Bool) → (flag || false) ≡ flag
+or-no true = refl
+or-no false = refl
+
+-- no statement but the last one ends a block
+ends_once-first : (statement next : Stmt) (statements : List Stmt) → ends_once (statement ∷ next ∷ statements) ≡ true → is_ending statement ≡ false
+ends_once-first statement next statements ends = by (is_ending statement) ends where
+  by : (flag : Bool) → (if flag then false else ends_once (next ∷ statements)) ≡ true → flag ≡ false
+  by true e = absurd (false≢true e)
+  by false e = refl
+
+ends_once-next : (statement next : Stmt) (statements : List Stmt) → ends_once (statement ∷ next ∷ statements) ≡ true → ends_once (next ∷ statements) ≡ true
+ends_once-next statement next statements ends = by (is_ending statement) ends where
+  by : (flag : Bool) → (if flag then false else ends_once (next ∷ statements)) ≡ true → ends_once (next ∷ statements) ≡ true
+  by true e = absurd (false≢true e)
+  by false e = e
+
+pub statements_at-statements : (fuel : ℕ) (wording : Wording) (statements : List Stmt) (tail : List ℕ) → wording.number < 2 ^ 64
+    → AreAllowed wording.names → DoNotClash wording.names → (wording.custom ≡ true → name_primitives wording.names ≡ false) → EachHasSpelling wording.names statements → length statements ≤ fuel → ends_once statements ≡ true
     → statements_at fuel wording.custom wording.names (statements_then wording statements tail) ≡ (statements, any_names_context wording.ctx statements, tail)
 unfolding statements_at
-statements_at-statements zero wording [] tail short allowed clash free spelled le q = refl
-statements_at-statements (suc fuel) wording [] tail short allowed clash free spelled le q = rw q refl
-statements_at-statements zero wording (s ∷ statements) tail short allowed clash free spelled le q = absurd (omega arith)
-statements_at-statements (suc fuel) wording (s ∷ statements) tail short allowed clash free spelled le q =
-    let rest : statements_at fuel wording.custom wording.names (statements_then wording statements tail) ≡ (statements, any_names_context wording.ctx statements, tail) = statements_at-statements fuel wording statements tail short allowed clash free spelled.1 (omega arith) q in
-    rw (begins_statement-statement wording s (statements_then wording statements tail), statement_at-statement wording s (statements_then wording statements tail) short allowed clash free spelled.0, rest) refl
-
--- ---- blocks
-
-identifier_no_statement : (c : ℕ) → begins_identifier c ≡ true → ((c == 9) || (c == 35)) ≡ false
-identifier_no_statement c h = rw (identifier_no_sign c 9 refl h, identifier_no_sign c 35 refl h) refl
-
-begins_statement-word : (front_word tail : List ℕ) → IsIdentifier front_word → begins_statement (front_word ++ tail) ≡ false
-begins_statement-word [] tail h = absurd h
-begins_statement-word (c ∷ front_word) tail h = identifier_no_statement c h.0
-
-begins_statement-label : (names : Spellings) (label : Option (List ℕ)) (tail : List ℕ) → AreAllowed names → begins_statement tail ≡ false
-    → begins_statement (label_then names label tail) ≡ false
-begins_statement-label names None tail allowed q = q
-begins_statement-label names (Some word) tail allowed q = ap begins_statement (append_assoc (label_prefix names) word (58 ∷ 10 ∷ tail))
-    ∙ begins_statement-word (label_prefix names) (word ++ 58 ∷ 10 ∷ tail) allowed.label_prefix
-
-pub begins_statement-blocks : (wording : Wording) (place : ℕ) (blocks : List CodeBlock) (tail : List ℕ) → AreAllowed wording.names
-    → begins_statement tail ≡ false → begins_statement (blocks_then wording place blocks tail) ≡ false
-begins_statement-blocks wording place [] tail allowed q = q
-begins_statement-blocks wording place (b ∷ blocks) tail allowed q = begins_statement-label wording.names b.cond (block_then wording.number place (joined (codes ":\n" ∷ []) (statements_then wording b.stmts (blocks_then wording (suc place) blocks tail)))) allowed refl
-
-begins_statement-statements : (wording : Wording) (statements : List Stmt) (tail : List ℕ) → 0 < length statements
-    → begins_statement (statements_then wording statements tail) ≡ true
-begins_statement-statements wording [] tail h = absurd (omega arith)
-begins_statement-statements wording (s ∷ statements) tail h = begins_statement-statement wording s (statements_then wording statements tail)
-
--- a line `yyN_S:`
-behind-block : (number place : ℕ) (tail : List ℕ) → number < 2 ^ 64 → place < 2 ^ 64
-    → after_letters is_in_identifier (block_then number place (58 ∷ tail)) ≡ 58 ∷ tail
-behind-block number place tail h k = rw (behind-word is_in_identifier (decimal number) (95 ∷ (decimal place ++ 58 ∷ tail)) (decimal_identifier number h), behind-stop is_in_identifier (decimal place) 58 tail (decimal_identifier place k) refl) refl
-
-code_block_at-block : (fuel : ℕ) (wording : Wording) (place : ℕ) (label : Option (List ℕ)) (statements : List Stmt) (tail : List ℕ)
-    → wording.number < 2 ^ 64 → place < 2 ^ 64 → AreAllowed wording.names → DoNotClash wording.names → (wording.custom ≡ true → name_primitives wording.names ≡ false)
-    → 0 < length statements → IsLabel label → EachHasSpelling wording.names statements → length statements ≤ fuel → begins_statement tail ≡ false
-    → code_block_at fuel wording.custom wording.names (label_then wording.names label (block_then wording.number place (codes ":\n" ++ statements_then wording statements tail))) ≡ (record { cond = label; stmts = statements }, any_names_context wording.ctx statements, tail)
-unfolding code_block_at
-code_block_at-block fuel wording place None statements tail short hs allowed clash free ne hl spelled le q =
-    rw (behind-block wording.number place (10 ∷ statements_then wording statements tail) short hs, begins_statement-statements wording statements tail ne, statements_at-statements fuel wording statements tail short allowed clash free spelled le q) refl
-code_block_at-block fuel wording place (Some v) statements tail short hs allowed clash free ne hl spelled le q =
-    let hv : EachLetter is_in_identifier (label_prefix wording.names ++ v) = EachLetter-append is_in_identifier (label_prefix wording.names) v (EachLetter-identifier (label_prefix wording.names) allowed.label_prefix) (EachLetter-identifier v hl) in
-    let t : List ℕ = block_then wording.number place (codes ":\n" ++ statements_then wording statements tail) in
-    rw (behind-stop is_in_identifier (label_prefix wording.names ++ v) 58 (10 ∷ t) hv refl, front-stop is_in_identifier (label_prefix wording.names ++ v) 58 (10 ∷ t) hv refl, behind-block wording.number place (10 ∷ statements_then wording statements tail) short hs, drop-front (label_prefix wording.names) v, statements_at-statements fuel wording statements tail short allowed clash free spelled le q) refl
-
--- the first line of a block has a colon and a line feed
-first_line : (number : ℕ) (names : Spellings) (place : ℕ) (label : Option (List ℕ)) (tail : List ℕ) → number < 2 ^ 64 → place < 2 ^ 64
-    → AreAllowed names → IsLabel label
-    → (byte_at (after_letters is_in_identifier (label_then names label (block_then number place (codes ":\n" ++ tail)))) 1 == 59) ≡ false
-first_line number names place None tail short hs allowed hl = rw (behind-block number place (10 ∷ tail) short hs) refl
-first_line number names place (Some v) tail short hs allowed hl =
-    let hv : EachLetter is_in_identifier (label_prefix names ++ v) = EachLetter-append is_in_identifier (label_prefix names) v (EachLetter-identifier (label_prefix names) allowed.label_prefix) (EachLetter-identifier v hl) in
-    rw (behind-stop is_in_identifier (label_prefix names ++ v) 58 (10 ∷ block_then number place (codes ":\n" ++ tail)) hv refl) refl
-
-abbrev pub blocks_name_context : Bool → List CodeBlock → Bool
-blocks_name_context ctx [] = false
-blocks_name_context ctx (b ∷ blocks) = any_names_context ctx b.stmts || blocks_name_context ctx blocks
-
-pub blocks_at-blocks : (k fuel : ℕ) (wording : Wording) (place : ℕ) (blocks : List CodeBlock) (tail y : List ℕ) → wording.number < 2 ^ 64
-    → place + length blocks < 2 ^ 64 → AreAllowed wording.names → DoNotClash wording.names → (wording.custom ≡ true → name_primitives wording.names ≡ false)
-    → EachBlockHasSpelling wording.names blocks → length blocks ≤ k → statement_count blocks ≤ fuel → begins_statement tail ≡ false
-    → after_letters is_in_identifier tail ≡ codes ":;" ++ y
-    → blocks_at k fuel wording.custom wording.names (blocks_then wording place blocks tail) ≡ (blocks, blocks_name_context wording.ctx blocks, tail)
-unfolding blocks_at
-blocks_at-blocks zero fuel wording place [] tail y short hs allowed clash free spelled le lc q e = refl
-blocks_at-blocks (suc k) fuel wording place [] tail y short hs allowed clash free spelled le lc q e = rw e refl
-blocks_at-blocks zero fuel wording place (b ∷ blocks) tail y short hs allowed clash free spelled le lc q e = absurd (omega arith)
-blocks_at-blocks (suc k) fuel wording place (b ∷ blocks) tail y short hs allowed clash free spelled le lc q e =
-    let rest : blocks_at k fuel wording.custom wording.names (blocks_then wording (suc place) blocks tail) ≡ (blocks, blocks_name_context wording.ctx blocks, tail) = blocks_at-blocks k fuel wording (suc place) blocks tail y short (omega arith) allowed clash free spelled.1 (omega arith) (omega arith) q e in
-    let small : place < 2 ^ 64 = omega arith in
-    let few : length b.stmts ≤ fuel = omega arith in
-    let others : List ℕ = blocks_then wording (suc place) blocks tail in
-    rw (first_line wording.number wording.names place b.cond (statements_then wording b.stmts others) short small allowed spelled.0.1, code_block_at-block fuel wording place b.cond b.stmts others short small allowed clash free spelled.0.0 spelled.0.1 spelled.0.2 few (begins_statement-blocks wording (suc place) blocks tail allowed q), rest) refl
+statements_at-statements fuel wording [] tail short allowed clash free spelled le ends = absurd (false≢true ends)
+statements_at-statements zero wording (s ∷ statements) tail short allowed clash free spelled le ends = absurd (omega arith)
+statements_at-statements (suc fuel) wording (s ∷ []) tail short allowed clash free spelled le ends =
+    rw (begins_statement-statement wording s tail, statement_at-statement wording s tail short allowed clash free spelled.0, ends, or-no (names_context wording.ctx s)) refl
+statements_at-statements (suc fuel) wording (s ∷ next ∷ statements) tail short allowed clash free spelled le ends =
+    let others : List Stmt = next ∷ statements in
+    let rest : statements_at fuel wording.custom wording.names (statements_then wording others tail) ≡ (others, any_names_context wording.ctx others, tail) =
+    statements_at-statements fuel wording others tail short allowed clash free spelled.1 (omega arith) (ends_once-next s next statements ends) in
+    rw (begins_statement-statement wording s (statements_then wording others tail), statement_at-statement wording s (statements_then wording others tail) short allowed clash free spelled.0, ends_once-first s next statements ends, rest) refl
 
 -- ---- the names line
 
@@ -224,19 +178,39 @@ abbrev pub AreStates : ℕ → Option (List StateCase) → Type 0
 AreStates fuel None = Unit {0}
 AreStates fuel (Some cases) = AreCases cases × (length cases ≤ fuel)
 
+pub state_switch_at-cases : (fuel number : ℕ) (names : Spellings) (conds : List CondCase) (cases : List StateCase) (tail : List ℕ)
+    → number < 2 ^ 64 → AreAllowed names → AreCases cases → length cases ≤ fuel
+    → state_switch_at fuel (state_switch_then number names conds (Some cases) tail) ≡ (Some cases, tail)
+unfolding state_switch_at
+state_switch_at-cases fuel number names conds cases tail short allowed h le =
+    let y : List ℕ = codes "\tdefault: goto " ++ start_then number conds (codes ";\n\t}\n" ++ tail) in
+    rw (behind-word is_in_spelling (get_state names) (codes "()) {\n" ++ state_cases_then number cases y) allowed.get_state.1, state_cases_at-cases fuel number cases y short h le refl, behind-start number conds (codes "\n\t}\n" ++ tail) short) refl
+
 pub state_switch_at-switch : (fuel number : ℕ) (names : Spellings) (conds : List CondCase) (states : Option (List StateCase)) (tail : List ℕ)
     → number < 2 ^ 64 → AreAllowed names → AreStates fuel states → is_tab tail ≡ false
     → state_switch_at fuel (state_switch_then number names conds states tail) ≡ (states, tail)
 unfolding state_switch_at
 state_switch_at-switch fuel number names conds None tail short allowed h q = rw q refl
-state_switch_at-switch fuel number names conds (Some cases) tail short allowed h q =
-    let y : List ℕ = codes "\tdefault: goto " ++ start_then number conds (codes ";\n\t}\n" ++ tail) in
-    rw (behind-word is_in_spelling (get_state names) (codes "()) {\n" ++ state_cases_then number cases y) allowed.get_state.1, state_cases_at-cases fuel number cases y short h.0 h.1 refl, behind-start number conds (codes "\n\t}\n" ++ tail) short) refl
+state_switch_at-switch fuel number names conds (Some cases) tail short allowed h q = state_switch_at-cases fuel number names conds cases tail short allowed h.0 h.1
 
 pub NoDeclarations-states : (number : ℕ) (names : Spellings) (conds : List CondCase) (states : Option (List StateCase)) (tail : List ℕ)
     → is_tab tail ≡ false → NoDeclarations (state_switch_then number names conds states tail)
 NoDeclarations-states number names conds None tail q = record { no_semicolon = rw q refl }
 NoDeclarations-states number names conds (Some cases) tail q = record { no_semicolon = refl }
+
+-- neither the declarations nor the switch over stored states have the table's bracket
+NoTable-states : (number : ℕ) (names : Spellings) (conds : List CondCase) (states : Option (List StateCase)) (tail : List ℕ)
+    → is_tab tail ≡ false → NoTable (state_switch_then number names conds states tail)
+NoTable-states number names conds None tail q = record { no_bracket = rw q refl }
+NoTable-states number names conds (Some cases) tail q = record { no_bracket = refl }
+
+pub NoTable-declarations : (number : ℕ) (names : Spellings) (declares : Bool) (conds : List CondCase) (states : Option (List StateCase)) (tail : List ℕ)
+    → AreAllowed names → is_tab tail ≡ false → NoTable (declarations_then names declares (state_switch_then number names conds states tail))
+NoTable-declarations number names false conds states tail allowed q = NoTable-states number names conds states tail q
+NoTable-declarations number names true conds states tail allowed q =
+    let t : List ℕ = codes "\n\tunsigned int " ++ (last_accept names ++ (codes " = 0;\n" ++ state_switch_then number names conds states tail)) in
+    let hy : EachLetter is_in_type (current_unit names) = EachLetter-from is_in_identifier is_in_type is_in_type-identifier (current_unit names) (EachLetter-identifier (current_unit names) allowed.current_unit) in
+    record { no_bracket = rw (behind-word is_in_type (unit_type names) (32 ∷ (current_unit names ++ 59 ∷ t)) (EachLetter-words true (unit_type names) allowed.unit_type), behind-stop is_in_type (current_unit names) 59 t hy refl) refl }
 
 -- ---- the condition switch
 

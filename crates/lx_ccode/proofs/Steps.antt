@@ -3,11 +3,11 @@ use Rattle.std.proofs.Common.{◌≡◌, ℕ, ◌+◌, Bool, true, false, List, 
 use Rattle.std.specs.Prelude.{if◌then◌else◌, ◌==◌}
 use Rattle.std.proofs.lemmas.Bool.{eqb-true, false≢true}
 use Rattle.lx_ccode.specs.declared.piece.Stmt.{Stmt}
-use Rattle.lx_ccode.specs.declared.piece.Stmt.TheVariants.{Peek, Skip, Backup, Restore, Accept, Set, Unset, Copy, MSet, MUnset, MCopy, IfUnit, IfAccept, IfEnd, State, Need, Try, Cond, Tag, Count, End, Back, Goto, Leave, Code, Jump}
+use Rattle.lx_ccode.specs.declared.piece.Stmt.TheVariants.{Peek, Skip, Backup, Restore, Accept, Set, Unset, Copy, MSet, MUnset, MCopy, IfUnit, IfIs, IfSet, IfAccept, IfEnd, State, Need, Try, Cond, Tag, Count, End, Back, Switch, Goto, Leave, Code, Jump}
 use Rattle.lx_ccode.specs.declared.piece.CodeBlock.{CodeBlock}
 use Rattle.lx_ccode.specs.declared.piece.Piece.{Piece}
 use Rattle.lx_ccode.specs.Statements.{is_refill, is_state}
-use Rattle.lx_ccode.specs.Machine.{Value, Machine, Refill, more, no_more, Answer, refilled, left, units_of_answers, Next, goes_on, ends, jump, choose, come_back, peek, skip, if_unit, write_history, back, has_units, need, try, updated, step}
+use Rattle.lx_ccode.specs.Machine.{Value, Machine, Refill, more, no_more, Answer, refilled, left, units_of_answers, Next, goes_on, ends, jump, choose, come_back, peek, skip, if_unit, switch_unit, write_history, back, has_units, need, try, updated, step}
 use Rattle.lx_ccode.specs.Effects.{machine_after, answers_after, moves_cursor, moves_marker, changes_unit, sets_accept, sets_condition, register_written, history_written, gives_value, ChangesOnly}
 
 -- ---- the limit and the units to come
@@ -63,10 +63,15 @@ units_after-skip : (sum : ℕ) (before_limit : Bool) (rest : List Stmt) (machine
 units_after-skip sum true rest machine answers same = same
 units_after-skip sum false rest machine answers same = refl
 
-units_after-if_unit : (sum : ℕ) (unit : Option ℕ) (greatest : ℕ) (target : Option (List Stmt)) (rest : List Stmt) (machine : Machine) (answers : List Answer)
-    → machine.limit + units_of_answers answers ≡ sum → units_after sum (if_unit unit greatest target rest machine answers) ≡ sum
-units_after-if_unit sum None greatest target rest machine answers same = refl
-units_after-if_unit sum (Some unit) greatest target rest machine answers same = units_after-choose sum _ target rest machine answers same
+units_after-if_unit : (sum : ℕ) (unit : Option ℕ) (test : ℕ → Bool) (target : Option (List Stmt)) (rest : List Stmt) (machine : Machine) (answers : List Answer)
+    → machine.limit + units_of_answers answers ≡ sum → units_after sum (if_unit unit test target rest machine answers) ≡ sum
+units_after-if_unit sum None test target rest machine answers same = refl
+units_after-if_unit sum (Some unit) test target rest machine answers same = units_after-choose sum _ target rest machine answers same
+
+units_after-switch_unit : (sum : ℕ) (unit : Option ℕ) (target : ℕ → Option (List Stmt)) (machine : Machine) (answers : List Answer)
+    → machine.limit + units_of_answers answers ≡ sum → units_after sum (switch_unit unit target machine answers) ≡ sum
+units_after-switch_unit sum None target machine answers same = refl
+units_after-switch_unit sum (Some unit) target machine answers same = units_after-jump sum (target unit) machine answers same
 
 units_after-write_history : (sum history : ℕ) (content : List (Option ℕ)) (rest : List Stmt) (machine : Machine) (answers : List Answer)
     → machine.limit + units_of_answers answers ≡ sum → units_after sum (write_history history content rest machine answers) ≡ sum
@@ -95,7 +100,9 @@ module _ (piece : Piece) (stream : List ℕ) (rest : List Stmt) (machine : Machi
   units_after-step (MSet history) = units_after-write_history sum history _ rest machine answers refl
   units_after-step (MUnset history) = units_after-write_history sum history _ rest machine answers refl
   units_after-step (MCopy history source) = units_after-write_history sum history _ rest machine answers refl
-  units_after-step (IfUnit greatest block) = units_after-if_unit sum machine.unit greatest _ rest machine answers refl
+  units_after-step (IfUnit greatest block) = units_after-if_unit sum machine.unit _ _ rest machine answers refl
+  units_after-step (IfIs unit block) = units_after-if_unit sum machine.unit _ _ rest machine answers refl
+  units_after-step (IfSet set block) = units_after-if_unit sum machine.unit _ _ rest machine answers refl
   units_after-step (IfAccept accept block) = units_after-choose sum _ _ rest machine answers refl
   units_after-step (IfEnd block) = units_after-choose sum _ _ rest machine answers refl
   units_after-step (State state) = refl
@@ -107,6 +114,7 @@ module _ (piece : Piece) (stream : List ℕ) (rest : List Stmt) (machine : Machi
   units_after-step (Count groups) = refl
   units_after-step (End place register) = refl
   units_after-step (Back register) = units_after-back sum (machine.registers register) rest machine answers refl
+  units_after-step (Switch cases last) = units_after-switch_unit sum machine.unit _ machine answers refl
   units_after-step (Goto block) = units_after-jump sum _ machine answers refl
   units_after-step Leave = refl
   units_after-step (Code rule line action) = refl
@@ -307,10 +315,15 @@ ChangesOnly-choose : (statement : Stmt) (test : Bool) (target : Option (List Stm
 ChangesOnly-choose statement true target rest machine answers = ChangesOnly-jump statement machine machine target answers (ChangesOnly-self statement machine)
 ChangesOnly-choose statement false target rest machine answers = ChangesOnly-self statement machine
 
-ChangesOnly-if_unit : (statement : Stmt) (unit : Option ℕ) (greatest : ℕ) (target : Option (List Stmt)) (rest : List Stmt) (machine : Machine) (answers : List Answer)
-    → ChangesOnly statement machine (machine_after (if_unit unit greatest target rest machine answers))
-ChangesOnly-if_unit statement None greatest target rest machine answers = ChangesOnly-self statement machine
-ChangesOnly-if_unit statement (Some unit) greatest target rest machine answers = ChangesOnly-choose statement _ target rest machine answers
+ChangesOnly-if_unit : (statement : Stmt) (unit : Option ℕ) (test : ℕ → Bool) (target : Option (List Stmt)) (rest : List Stmt) (machine : Machine) (answers : List Answer)
+    → ChangesOnly statement machine (machine_after (if_unit unit test target rest machine answers))
+ChangesOnly-if_unit statement None test target rest machine answers = ChangesOnly-self statement machine
+ChangesOnly-if_unit statement (Some unit) test target rest machine answers = ChangesOnly-choose statement _ target rest machine answers
+
+ChangesOnly-switch_unit : (statement : Stmt) (unit : Option ℕ) (target : ℕ → Option (List Stmt)) (machine : Machine) (answers : List Answer)
+    → ChangesOnly statement machine (machine_after (switch_unit unit target machine answers))
+ChangesOnly-switch_unit statement None target machine answers = ChangesOnly-self statement machine
+ChangesOnly-switch_unit statement (Some unit) target machine answers = ChangesOnly-jump statement machine machine (target unit) answers (ChangesOnly-self statement machine)
 
 ChangesOnly-write_history : (statement : Stmt) (history : ℕ) (content : List (Option ℕ)) (rest : List Stmt) (machine : Machine) (answers : List Answer)
     → history_written statement ≡ Some history → ChangesOnly statement machine (machine_after (write_history history content rest machine answers))
@@ -365,7 +378,9 @@ module _ (piece : Piece) (stream : List ℕ) (rest : List Stmt) (machine : Machi
   ChangesOnly-step (MSet history) = ChangesOnly-write_history (MSet history) history _ rest machine answers refl
   ChangesOnly-step (MUnset history) = ChangesOnly-write_history (MUnset history) history _ rest machine answers refl
   ChangesOnly-step (MCopy history source) = ChangesOnly-write_history (MCopy history source) history _ rest machine answers refl
-  ChangesOnly-step (IfUnit greatest block) = ChangesOnly-if_unit (IfUnit greatest block) machine.unit greatest _ rest machine answers
+  ChangesOnly-step (IfUnit greatest block) = ChangesOnly-if_unit (IfUnit greatest block) machine.unit _ _ rest machine answers
+  ChangesOnly-step (IfIs unit block) = ChangesOnly-if_unit (IfIs unit block) machine.unit _ _ rest machine answers
+  ChangesOnly-step (IfSet set block) = ChangesOnly-if_unit (IfSet set block) machine.unit _ _ rest machine answers
   ChangesOnly-step (IfAccept accept block) = ChangesOnly-choose (IfAccept accept block) _ _ rest machine answers
   ChangesOnly-step (IfEnd block) = ChangesOnly-choose (IfEnd block) _ _ rest machine answers
   ChangesOnly-step (State state) = state_stored (State state) machine _ refl
@@ -377,6 +392,7 @@ module _ (piece : Piece) (stream : List ℕ) (rest : List Stmt) (machine : Machi
   ChangesOnly-step (Count groups) = value_given (Count groups) machine _ refl
   ChangesOnly-step (End place register) = value_given (End place register) machine _ refl
   ChangesOnly-step (Back register) = ChangesOnly-back (Back register) (machine.registers register) rest machine answers refl
+  ChangesOnly-step (Switch cases last) = ChangesOnly-switch_unit (Switch cases last) machine.unit _ machine answers
   ChangesOnly-step (Goto block) = ChangesOnly-jump (Goto block) machine machine _ answers (ChangesOnly-self (Goto block) machine)
   ChangesOnly-step Leave = ChangesOnly-self Leave machine
   ChangesOnly-step (Code rule line action) = ChangesOnly-self (Code rule line action) machine
@@ -393,10 +409,15 @@ answers_after-choose : (test : Bool) (target : Option (List Stmt)) (rest : List 
 answers_after-choose true target rest machine answers = answers_after-jump target machine answers
 answers_after-choose false target rest machine answers = refl
 
-answers_after-if_unit : (unit : Option ℕ) (greatest : ℕ) (target : Option (List Stmt)) (rest : List Stmt) (machine : Machine) (answers : List Answer)
-    → answers_after answers (if_unit unit greatest target rest machine answers) ≡ answers
-answers_after-if_unit None greatest target rest machine answers = refl
-answers_after-if_unit (Some unit) greatest target rest machine answers = answers_after-choose _ target rest machine answers
+answers_after-if_unit : (unit : Option ℕ) (test : ℕ → Bool) (target : Option (List Stmt)) (rest : List Stmt) (machine : Machine) (answers : List Answer)
+    → answers_after answers (if_unit unit test target rest machine answers) ≡ answers
+answers_after-if_unit None test target rest machine answers = refl
+answers_after-if_unit (Some unit) test target rest machine answers = answers_after-choose _ target rest machine answers
+
+answers_after-switch_unit : (unit : Option ℕ) (target : ℕ → Option (List Stmt)) (machine : Machine) (answers : List Answer)
+    → answers_after answers (switch_unit unit target machine answers) ≡ answers
+answers_after-switch_unit None target machine answers = refl
+answers_after-switch_unit (Some unit) target machine answers = answers_after-jump (target unit) machine answers
 
 answers_after-peek : (unit : Option ℕ) (rest : List Stmt) (machine : Machine) (answers : List Answer) → answers_after answers (peek unit rest machine answers) ≡ answers
 answers_after-peek None rest machine answers = refl
@@ -429,7 +450,9 @@ module _ (piece : Piece) (stream : List ℕ) (rest : List Stmt) (machine : Machi
   answers_after-step (MSet history) asks = answers_after-write_history history _ rest machine answers
   answers_after-step (MUnset history) asks = answers_after-write_history history _ rest machine answers
   answers_after-step (MCopy history source) asks = answers_after-write_history history _ rest machine answers
-  answers_after-step (IfUnit greatest block) asks = answers_after-if_unit machine.unit greatest _ rest machine answers
+  answers_after-step (IfUnit greatest block) asks = answers_after-if_unit machine.unit _ _ rest machine answers
+  answers_after-step (IfIs unit block) asks = answers_after-if_unit machine.unit _ _ rest machine answers
+  answers_after-step (IfSet set block) asks = answers_after-if_unit machine.unit _ _ rest machine answers
   answers_after-step (IfAccept accept block) asks = answers_after-choose _ _ rest machine answers
   answers_after-step (IfEnd block) asks = answers_after-choose _ _ rest machine answers
   answers_after-step (State state) asks = refl
@@ -441,6 +464,7 @@ module _ (piece : Piece) (stream : List ℕ) (rest : List Stmt) (machine : Machi
   answers_after-step (Count groups) asks = refl
   answers_after-step (End place register) asks = refl
   answers_after-step (Back register) asks = answers_after-back (machine.registers register) rest machine answers
+  answers_after-step (Switch cases last) asks = answers_after-switch_unit machine.unit _ machine answers
   answers_after-step (Goto block) asks = answers_after-jump _ machine answers
   answers_after-step Leave asks = refl
   answers_after-step (Code rule line action) asks = refl

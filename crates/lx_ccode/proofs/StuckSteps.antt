@@ -1,12 +1,14 @@
 -- A step is stuck exactly where its statement cannot do what it is for.
-use Rattle.std.proofs.Common.{◌≡◌, ℕ, zero, suc, ◌+◌, ◌<◌, ◌≤◌, Bool, true, false, List, [], ◌∷◌, length, Option, Some, None, refl, sym, ap, ◌∙◌, arith}
+use Rattle.std.proofs.Common.{◌≡◌, ℕ, zero, suc, ◌+◌, ◌<◌, ◌≤◌, Bool, true, false, List, [], ◌∷◌, ◌++◌, length, map, Option, Some, None, refl, sym, ap, ◌∙◌, arith}
 use Rattle.std.specs.Prelude.{if◌then◌else◌, nat_lt, ◌==◌, ◌↔◌, slice_get}
+use Rattle.std.specs.List.{AllByRecursion}
 use Rattle.std.proofs.lemmas.Bool.{false≢true, eq-eqb, eqb-true, ltb-true, ltb-false}
 use Rattle.lx_ccode.specs.declared.piece.Stmt.{Stmt}
-use Rattle.lx_ccode.specs.declared.piece.Stmt.TheVariants.{Peek, Skip, Backup, Restore, Accept, Set, Unset, Copy, MSet, MUnset, MCopy, IfUnit, IfAccept, IfEnd, State, Need, Try, Cond, Tag, Count, End, Back, Goto, Leave, Code, Jump}
+use Rattle.lx_ccode.specs.declared.piece.Stmt.TheVariants.{Peek, Skip, Backup, Restore, Accept, Set, Unset, Copy, MSet, MUnset, MCopy, IfUnit, IfIs, IfSet, IfAccept, IfEnd, State, Need, Try, Cond, Tag, Count, End, Back, Switch, Goto, Leave, Code, Jump}
 use Rattle.lx_ccode.specs.declared.piece.CodeBlock.{CodeBlock}
+use Rattle.lx_ccode.specs.declared.piece.SwitchCase.{SwitchCase}
 use Rattle.lx_ccode.specs.declared.piece.Piece.{Piece}
-use Rattle.lx_ccode.specs.Machine.{Machine, more, no_more, Answer, refilled, left, Next, jump, code_at, stored_block, choose, unit_at, peek, skip, if_unit, write_history, back, has_units, need, try, step}
+use Rattle.lx_ccode.specs.Machine.{Machine, more, no_more, Answer, refilled, left, Next, jump, code_at, stored_block, choose, unit_at, peek, skip, if_unit, has_unit, case_block, switch_unit, write_history, back, has_units, need, try, step}
 use Rattle.lx_ccode.specs.Stuck.{outcome_after, IsStuck, CannotDo, HasWayBack}
 use Rattle.lx_ccode.specs.Validity.{JumpsBelow}
 
@@ -92,11 +94,25 @@ IsStuck-write_history : (history : ℕ) (content : List (Option ℕ)) (rest : Li
 IsStuck-write_history zero content rest machine answers = (λ is. refl, λ h. refl)
 IsStuck-write_history (suc place) content rest machine answers = (λ is. absurd cc, λ h. absurd (omega (arith, h)))
 
-IsStuck-if_unit : (unit : Option ℕ) (greatest : ℕ) (target : Option (List Stmt)) (rest : List Stmt) (machine : Machine) (answers : List Answer) → (target ≡ None → ⊥)
-    → IsStuck (if_unit unit greatest target rest machine answers) ↔ (unit ≡ None)
-IsStuck-if_unit None greatest target rest machine answers some = (λ is. refl, λ h. refl)
-IsStuck-if_unit (Some unit) greatest target rest machine answers some =
+IsStuck-if_unit : (unit : Option ℕ) (test : ℕ → Bool) (target : Option (List Stmt)) (rest : List Stmt) (machine : Machine) (answers : List Answer) → (target ≡ None → ⊥)
+    → IsStuck (if_unit unit test target rest machine answers) ↔ (unit ≡ None)
+IsStuck-if_unit None test target rest machine answers some = (λ is. refl, λ h. refl)
+IsStuck-if_unit (Some unit) test target rest machine answers some =
     (λ is. absurd (IsStuck-choose _ target rest machine answers some is), λ h. absurd cc)
+
+-- a block of the cases, or the last one, is below a number where each is
+pub case_block-below : (blocks last unit : ℕ) (cases : List SwitchCase) → AllByRecursion (λ block. block < blocks) (map (λ case. case.block) cases ++ last ∷ [])
+    → case_block cases last unit < blocks
+case_block-below blocks last unit [] below = below.0
+case_block-below blocks last unit (case ∷ cases) below = by (has_unit case.units unit) (case_block-below blocks last unit cases below.1) where
+  by : (flag : Bool) → case_block cases last unit < blocks → (if flag then case.block else case_block cases last unit) < blocks
+  by true h = below.0
+  by false h = h
+
+IsStuck-switch_unit : (unit : Option ℕ) (target : ℕ → Option (List Stmt)) (machine : Machine) (answers : List Answer) → ((unit : ℕ) → target unit ≡ None → ⊥)
+    → IsStuck (switch_unit unit target machine answers) ↔ (unit ≡ None)
+IsStuck-switch_unit None target machine answers some = (λ is. refl, λ h. refl)
+IsStuck-switch_unit (Some unit) target machine answers some = (λ is. absurd (IsStuck-jump (target unit) machine answers (some unit) is), λ h. absurd cc)
 
 IsStuck-back : (offset : Option ℕ) (rest : List Stmt) (machine : Machine) (answers : List Answer) → IsStuck (back offset rest machine answers) ↔ (offset ≡ None)
 IsStuck-back None rest machine answers = (λ is. refl, λ h. refl)
@@ -121,19 +137,23 @@ module _ (piece : Piece) (stream : List ℕ) (rest : List Stmt) (machine : Machi
   IsStuck-step (MSet history) jumps way = IsStuck-write_history history _ rest machine answers
   IsStuck-step (MUnset history) jumps way = IsStuck-write_history history _ rest machine answers
   IsStuck-step (MCopy history source) jumps way = IsStuck-write_history history _ rest machine answers
-  IsStuck-step (IfUnit greatest block) jumps way = IsStuck-if_unit machine.unit greatest _ rest machine answers (code_at-below piece.blocks block jumps)
-  IsStuck-step (IfAccept accept block) jumps way = (IsStuck-choose _ _ rest machine answers (code_at-below piece.blocks block jumps), λ h. absurd h)
-  IsStuck-step (IfEnd block) jumps way = (IsStuck-choose _ _ rest machine answers (code_at-below piece.blocks block jumps), λ h. absurd h)
+  IsStuck-step (IfUnit greatest block) jumps way = IsStuck-if_unit machine.unit _ _ rest machine answers (code_at-below piece.blocks block jumps.0)
+  IsStuck-step (IfIs unit block) jumps way = IsStuck-if_unit machine.unit _ _ rest machine answers (code_at-below piece.blocks block jumps.0)
+  IsStuck-step (IfSet set block) jumps way = IsStuck-if_unit machine.unit _ _ rest machine answers (code_at-below piece.blocks block jumps.0)
+  IsStuck-step (IfAccept accept block) jumps way = (IsStuck-choose _ _ rest machine answers (code_at-below piece.blocks block jumps.0), λ h. absurd h)
+  IsStuck-step (IfEnd block) jumps way = (IsStuck-choose _ _ rest machine answers (code_at-below piece.blocks block jumps.0), λ h. absurd h)
   IsStuck-step (State state) jumps way = (λ is. cc, λ h. absurd h)
   IsStuck-step (Need units) jumps way = (IsStuck-need piece.blocks units rest machine answers (way refl), λ h. absurd h)
-  IsStuck-step (Try block) jumps way = (IsStuck-try piece.blocks _ rest machine answers (code_at-below piece.blocks block jumps) (way refl), λ h. absurd h)
+  IsStuck-step (Try block) jumps way = (IsStuck-try piece.blocks _ rest machine answers (code_at-below piece.blocks block jumps.0) (way refl), λ h. absurd h)
   IsStuck-step (Cond cond) jumps way = (λ is. cc, λ h. absurd h)
   IsStuck-step (Tag tag true history) jumps way = (λ is. cc, λ h. absurd h)
   IsStuck-step (Tag tag false register) jumps way = (λ is. cc, λ h. absurd h)
   IsStuck-step (Count groups) jumps way = (λ is. cc, λ h. absurd h)
   IsStuck-step (End place register) jumps way = (λ is. cc, λ h. absurd h)
   IsStuck-step (Back register) jumps way = IsStuck-back (machine.registers register) rest machine answers
-  IsStuck-step (Goto block) jumps way = (IsStuck-jump _ machine answers (code_at-below piece.blocks block jumps), λ h. absurd h)
+  IsStuck-step (Switch cases last) jumps way = IsStuck-switch_unit machine.unit _ machine answers
+      (λ unit. code_at-below piece.blocks (case_block cases last unit) (case_block-below (length piece.blocks) last unit cases jumps))
+  IsStuck-step (Goto block) jumps way = (IsStuck-jump _ machine answers (code_at-below piece.blocks block jumps.0), λ h. absurd h)
   IsStuck-step Leave jumps way = (λ is. cc, λ h. absurd h)
   IsStuck-step (Code rule line action) jumps way = (λ is. cc, λ h. absurd h)
   IsStuck-step (Jump cond rule) jumps way = (λ is. cc, λ h. absurd h)

@@ -1,12 +1,13 @@
 -- The steps of a trace that depend on a test: what each makes where the test holds and where it fails; and what holds of a scanner's statements.
 use Rattle.std.proofs.Common.{◌≡◌, ℕ, zero, suc, ◌+◌, ◌<◌, Bool, true, false, List, [], ◌∷◌, ◌++◌, length, Some, None, refl, sym, ap, subst, ◌∙◌, arith}
-use Rattle.std.specs.Prelude.{nat_lt, nat_le, slice_get, slice_index_or, if◌then◌else◌, ◌==◌}
+use Rattle.std.specs.Prelude.{nat_lt, slice_get, slice_index_or, if◌then◌else◌, ◌==◌}
 use Rattle.std.specs.List.{AllByRecursion}
 use Rattle.lx_ccode.specs.declared.piece.Stmt.{Stmt}
-use Rattle.lx_ccode.specs.declared.piece.Stmt.TheVariants.{Peek, Skip, IfUnit, IfAccept, Goto}
+use Rattle.lx_ccode.specs.declared.piece.Stmt.TheVariants.{Peek, Skip, IfAccept, Switch, Goto}
 use Rattle.lx_ccode.specs.declared.piece.CodeBlock.{CodeBlock}
+use Rattle.lx_ccode.specs.declared.piece.SwitchCase.{SwitchCase}
 use Rattle.lx_ccode.specs.declared.piece.Piece.{Piece}
-use Rattle.lx_ccode.specs.Machine.{Machine, Answer, Outcome, goes_on, ends, code_at, jump, choose, peek, skip, if_unit, step}
+use Rattle.lx_ccode.specs.Machine.{Machine, Answer, Outcome, goes_on, ends, case_block, code_at, jump, choose, peek, skip, if_unit, switch_unit, step}
 use Rattle.lx_ccode.specs.Runs.{Ended, ended}
 use Rattle.lx_ccode.specs.Scanners.{IsMadeBy, StandsIn}
 use Rattle.lx_ccode.specs.Statements.{all_statements}
@@ -30,18 +31,27 @@ module _ (piece : Piece) (stream : List ℕ) (rest : List Stmt) (machine : Machi
   goto_step block code is = ap (λ o. jump o machine answers) is
 
   module _ (unit : ℕ) (read : machine.unit ≡ Some unit) where
-    pub test_holds : (greatest block : ℕ) (code : List Stmt) → nat_le unit greatest ≡ true → code_at piece.blocks (Some block) ≡ Some code
-        → step piece stream (IfUnit greatest block) rest machine answers ≡ goes_on code machine answers
-    test_holds greatest block code holds is =
-        ap (λ o. if_unit o greatest (code_at piece.blocks (Some block)) rest machine answers) read
+    -- a statement that tests the unit goes to a block where the test holds
+    pub test_holds : (test : ℕ → Bool) (block : ℕ) (code : List Stmt) → test unit ≡ true → code_at piece.blocks (Some block) ≡ Some code
+        → if_unit machine.unit test (code_at piece.blocks (Some block)) rest machine answers ≡ goes_on code machine answers
+    test_holds test block code holds is =
+        ap (λ o. if_unit o test (code_at piece.blocks (Some block)) rest machine answers) read
         ∙ ap (λ t. choose t (code_at piece.blocks (Some block)) rest machine answers) holds
         ∙ ap (λ o. jump o machine answers) is
 
-    pub test_fails : (greatest block : ℕ) → nat_le unit greatest ≡ false
-        → step piece stream (IfUnit greatest block) rest machine answers ≡ goes_on rest machine answers
-    test_fails greatest block fails =
-        ap (λ o. if_unit o greatest (code_at piece.blocks (Some block)) rest machine answers) read
+    -- and on where it fails
+    pub test_fails : (test : ℕ → Bool) (block : ℕ) → test unit ≡ false
+        → if_unit machine.unit test (code_at piece.blocks (Some block)) rest machine answers ≡ goes_on rest machine answers
+    test_fails test block fails =
+        ap (λ o. if_unit o test (code_at piece.blocks (Some block)) rest machine answers) read
         ∙ ap (λ t. choose t (code_at piece.blocks (Some block)) rest machine answers) fails
+
+    -- a switch goes to the block of the case that has the unit, or else to the last one
+    pub switch_goes : (cases : List SwitchCase) (last block : ℕ) (code : List Stmt) → case_block cases last unit ≡ block
+        → code_at piece.blocks (Some block) ≡ Some code → step piece stream (Switch cases last) rest machine answers ≡ goes_on code machine answers
+    switch_goes cases last block code goes is =
+        ap (λ o. switch_unit o (λ read. code_at piece.blocks (Some (case_block cases last read))) machine answers) read
+        ∙ ap (λ at. jump (code_at piece.blocks (Some at)) machine answers) goes ∙ ap (λ o. jump o machine answers) is
 
   pub saved_holds : (accept block : ℕ) (code : List Stmt) → (machine.accept == accept) ≡ true → code_at piece.blocks (Some block) ≡ Some code
       → step piece stream (IfAccept accept block) rest machine answers ≡ goes_on code machine answers

@@ -1,7 +1,9 @@
 -- The head line of a piece.
-use Rattle.std.specs.Prelude.{ℕ, Bool, true, false, List, [], ◌∷◌, codes, Option, Some, None}
+use Rattle.std.specs.Prelude.{ℕ, Bool, true, false, not, List, [], ◌∷◌, codes, Option, Some, None, if◌then◌else◌}
 use Rattle.std.specs.Fmt.{decimal}
 use Rattle.lx_base.specs.Text.{joined}
+use Rattle.lx_base.specs.declared.settings.Format.{Format}
+use Rattle.lx_base.specs.declared.settings.Format.TheVariants.{Two, Three}
 use Rattle.lx_base.specs.declared.settings.Enc.{Enc}
 use Rattle.lx_base.specs.declared.settings.Enc.TheVariants.{Byte, Ucs2, Utf8, Utf16, Utf32}
 use Rattle.lx_ccode.specs.declared.piece.Head.{Head}
@@ -12,6 +14,20 @@ use Rattle.lx_ccode.specs.declared.piece.Mode.TheVariants.{Plain, Count, EofFixe
 abbrev pub is_custom : Option Head → Bool
 is_custom None = false
 is_custom (Some head) = head.custom
+
+abbrev pub is_format_three : Format → Bool
+is_format_three Two = false
+is_format_three Three = true
+
+-- the piece is of format 3; one without a head is not
+abbrev pub is_three : Option Head → Bool
+is_three None = false
+is_three (Some head) = is_format_three head.format
+
+-- the number of a format
+abbrev pub format_word : Format → List ℕ
+format_word Two = codes "2 "
+format_word Three = codes "3 "
 
 -- how an encoding is spelled
 abbrev pub encoding_word : Enc → List ℕ
@@ -33,9 +49,18 @@ abbrev pub custom_word : (custom : Bool) → List ℕ
 custom_word false = []
 custom_word true = codes "custom "
 
+-- the head of a piece of format 3 says that the user declares the variables
+abbrev pub is_kept : Option Head → (declares : Bool) → Bool
+is_kept head declares = if is_three head then not declares else false
+
+-- what stands there where the user declares the variables
+abbrev pub kept_word : (kept : Bool) → List ℕ
+kept_word false = []
+kept_word true = codes "kept "
+
 -- the line of a head, where there is one
-abbrev pub head_then : Option Head → List ℕ → List ℕ
-head_then None tail = tail
-head_then (Some head) tail =
-    joined (codes "/*!head:re2c 2 " ∷ custom_word head.custom ∷ encoding_word head.enc ∷ codes " " ∷ mode_word head.mode ∷ codes " "
+abbrev pub head_then : (kept : Bool) → Option Head → List ℕ → List ℕ
+head_then kept None tail = tail
+head_then kept (Some head) tail =
+    joined (codes "/*!head:re2c " ∷ format_word head.format ∷ custom_word head.custom ∷ kept_word kept ∷ encoding_word head.enc ∷ codes " " ∷ mode_word head.mode ∷ codes " "
     ∷ decimal head.regs ∷ codes " " ∷ decimal head.mregs ∷ codes " " ∷ decimal head.states ∷ codes "*/\n" ∷ []) tail

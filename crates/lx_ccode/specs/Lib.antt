@@ -5,10 +5,10 @@ pub mod Effects
 pub mod Examples
 pub mod Front
 pub mod Heads
+pub mod Labels
 pub mod Machine
 pub mod Marks
 pub mod NameSets
-pub mod Parts
 pub mod Reading
 pub mod Registers
 pub mod Runs

@@ -1,8 +1,10 @@
 -- The machine that runs pieces: what it holds, and what each statement does.
-use Rattle.std.specs.Prelude.{ℕ, zero, suc, ◌+◌, ◌-◌, List, [], ◌∷◌, ◌++◌, Option, Some, None, Bool, true, false, nat_lt, nat_le, ◌==◌, if◌then◌else◌, slice_get}
+use Rattle.std.specs.Prelude.{ℕ, zero, suc, ◌+◌, ◌-◌, ◌*◌, ◌/◌, ◌%◌, ◌^◌, List, [], ◌∷◌, ◌++◌, Option, Some, None, Bool, true, false, nat_lt, nat_le, ◌==◌, if◌then◌else◌, slice_get, slice_index}
+use Rattle.std.specs.List.{list_any}
 use Rattle.lx_ccode.specs.declared.piece.Stmt.{Stmt}
-use Rattle.lx_ccode.specs.declared.piece.Stmt.TheVariants.{Peek, Skip, Backup, Restore, Accept, Set, Unset, Copy, MSet, MUnset, MCopy, IfUnit, IfAccept, IfEnd, State, Need, Try, Cond, Tag, Count, End, Back, Goto, Leave, Code, Jump}
+use Rattle.lx_ccode.specs.declared.piece.Stmt.TheVariants.{Peek, Skip, Backup, Restore, Accept, Set, Unset, Copy, MSet, MUnset, MCopy, IfUnit, IfIs, IfSet, IfAccept, IfEnd, State, Need, Try, Cond, Tag, Count, End, Back, Switch, Goto, Leave, Code, Jump}
 use Rattle.lx_ccode.specs.declared.piece.CodeBlock.{CodeBlock}
+use Rattle.lx_ccode.specs.declared.piece.SwitchCase.{SwitchCase}
 use Rattle.lx_ccode.specs.declared.piece.Piece.{Piece}
 use Rattle.lx_ccode.specs.Statements.{code_of}
 use Rattle.lx_ccode.specs.States.{state_block}
@@ -127,9 +129,28 @@ skip true rest machine answers = goes_on rest (record machine { cursor = suc mac
 skip false rest machine answers = ends stuck machine
 
 -- a test of the unit; stuck where none was read
-abbrev pub if_unit : Option ℕ → (greatest : ℕ) → Option (List Stmt) → List Stmt → Machine → List Answer → Next
-if_unit None greatest target rest machine answers = ends stuck machine
-if_unit (Some unit) greatest target rest machine answers = choose (nat_le unit greatest) target rest machine answers
+abbrev pub if_unit : Option ℕ → (test : ℕ → Bool) → Option (List Stmt) → List Stmt → Machine → List Answer → Next
+if_unit None test target rest machine answers = ends stuck machine
+if_unit (Some unit) test target rest machine answers = choose (test unit) target rest machine answers
+
+-- the unit is in the set: the table has a byte for each unit up to 0xFF and each eight sets, of which each has a bit
+abbrev pub is_among : (table : List ℕ) → (set unit : ℕ) → Bool
+is_among table set unit =
+    if nat_le unit 0xFF then ((slice_index table (256 * (set / 8) + unit) / 2 ^ (set % 8)) % 2) == 1 else false
+
+-- the unit stands in the list
+abbrev pub has_unit : List ℕ → (unit : ℕ) → Bool
+has_unit units unit = list_any (λ other. other == unit) units
+
+-- the block of the case that has the unit, or else the last block
+abbrev pub case_block : List SwitchCase → (last unit : ℕ) → ℕ
+case_block [] last unit = last
+case_block (case ∷ cases) last unit = if has_unit case.units unit then case.block else case_block cases last unit
+
+-- a jump by the unit; stuck where none was read
+abbrev pub switch_unit : Option ℕ → (target : ℕ → Option (List Stmt)) → Machine → List Answer → Next
+switch_unit None target machine answers = ends stuck machine
+switch_unit (Some unit) target machine answers = jump (target unit) machine answers
 
 -- a history gets another content; history 0 is never written
 abbrev pub write_history : (history : ℕ) → List (Option ℕ) → List Stmt → Machine → List Answer → Next
@@ -191,7 +212,11 @@ step piece stream (MUnset history) rest machine answers =
     write_history history (machine.histories history ++ None ∷ []) rest machine answers
 step piece stream (MCopy history source) rest machine answers = write_history history (machine.histories source) rest machine answers
 step piece stream (IfUnit greatest block) rest machine answers =
-    if_unit machine.unit greatest (code_at piece.blocks (Some block)) rest machine answers
+    if_unit machine.unit (λ unit. nat_le unit greatest) (code_at piece.blocks (Some block)) rest machine answers
+step piece stream (IfIs unit block) rest machine answers =
+    if_unit machine.unit (λ read. read == unit) (code_at piece.blocks (Some block)) rest machine answers
+step piece stream (IfSet set block) rest machine answers =
+    if_unit machine.unit (is_among piece.table set) (code_at piece.blocks (Some block)) rest machine answers
 step piece stream (IfAccept accept block) rest machine answers =
     choose (machine.accept == accept) (code_at piece.blocks (Some block)) rest machine answers
 step piece stream (IfEnd block) rest machine answers =
@@ -205,6 +230,8 @@ step piece stream (Tag tag true history) rest machine answers = goes_on rest (gi
 step piece stream (Count groups) rest machine answers = goes_on rest (given (group_count groups) machine) answers
 step piece stream (End place register) rest machine answers = goes_on rest (given (group_end place (machine.registers register)) machine) answers
 step piece stream (Back register) rest machine answers = back (machine.registers register) rest machine answers
+step piece stream (Switch cases last) rest machine answers =
+    switch_unit machine.unit (λ unit. code_at piece.blocks (Some (case_block cases last unit))) machine answers
 step piece stream (Goto block) rest machine answers = jump (code_at piece.blocks (Some block)) machine answers
 step piece stream Leave rest machine answers = ends no_rule machine
 step piece stream (Code rule line action) rest machine answers = ends (by_rule rule) machine

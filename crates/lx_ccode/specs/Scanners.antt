@@ -1,18 +1,23 @@
 -- The scanners of a piece: which blocks are those of the scanner that begins at a block, and which registers their statements name.
-use Rattle.std.specs.Prelude.{◌≡◌, ℕ, ◌≤◌, true, false, List, [], ◌∷◌, Option, Some, Contains}
+use Rattle.std.specs.Prelude.{◌≡◌, ℕ, ◌≤◌, true, false, List, [], ◌∷◌, Option, Some, None, Contains}
 use Rattle.std.specs.List.{AllByRecursion}
 use Rattle.lx_ccode.specs.declared.piece.Stmt.{Stmt}
 use Rattle.lx_ccode.specs.declared.piece.Stmt.TheVariants.{Set, Unset, Copy, MSet, MUnset, MCopy, Need, State, Tag, End, Back}
 use Rattle.lx_ccode.specs.declared.piece.CodeBlock.{CodeBlock}
 use Rattle.lx_ccode.specs.Machine.{code_at}
-use Rattle.lx_ccode.specs.Statements.{all_statements}
+use Rattle.lx_ccode.specs.Statements.{all_statements, targets}
 use Rattle.lx_ccode.specs.States.{state_block}
-use Rattle.lx_ccode.specs.Traces.{jump_target}
 
--- the block to which a statement may lead: the one to which it jumps, or where a scanner comes back that was left in the state that it stores
-abbrev pub leads_to : List CodeBlock → Stmt → Option ℕ
-leads_to blocks (State state) = state_block blocks state
-leads_to blocks statement = jump_target statement
+-- a block, where there is one
+abbrev pub block_list : Option ℕ → List ℕ
+block_list None = []
+block_list (Some block) = block ∷ []
+
+-- the blocks to which a statement may lead: those to which it may jump, or the one where a scanner comes back that was left in the state
+-- that it stores
+abbrev pub leads_to : List CodeBlock → Stmt → List ℕ
+leads_to blocks (State state) = block_list (state_block blocks state)
+leads_to blocks statement = targets statement
 
 -- the statement stands in the block with this number
 abbrev pub StandsIn : List CodeBlock → (block : ℕ) → Stmt → Type 0
@@ -22,7 +27,7 @@ module _ (blocks : List CodeBlock) (entry : ℕ) where
   -- a block is of the scanner that begins at the entry: it is the entry, or a statement of such a block leads to it
   pub data IsOfScanner : (block : ℕ) → Type 0 where
     begins : IsOfScanner entry
-    led : {block next : ℕ} (statement : Stmt) → IsOfScanner block → StandsIn blocks block statement → leads_to blocks statement ≡ Some next
+    led : {block next : ℕ} (statement : Stmt) → IsOfScanner block → StandsIn blocks block statement → Contains (leads_to blocks statement) next
         → IsOfScanner next
 
   -- the statement stands in a block of the scanner

@@ -1,7 +1,7 @@
 -- Where the machine is stuck.
 use Rattle.std.specs.Prelude.{◌≡◌, ◌≤◌, Option, Some, None, true}
 use Rattle.lx_ccode.specs.declared.piece.Stmt.{Stmt}
-use Rattle.lx_ccode.specs.declared.piece.Stmt.TheVariants.{Peek, Skip, MSet, MUnset, MCopy, IfUnit, Back}
+use Rattle.lx_ccode.specs.declared.piece.Stmt.TheVariants.{Peek, Skip, MSet, MUnset, MCopy, IfUnit, IfIs, IfSet, Switch, Back}
 use Rattle.lx_ccode.specs.declared.piece.Piece.{Piece}
 use Rattle.lx_ccode.specs.Statements.{is_refill}
 use Rattle.lx_ccode.specs.Machine.{Machine, Outcome, stuck, Next, goes_on, ends, code_at, stored_block}
@@ -24,6 +24,9 @@ CannotDo piece (MSet history) machine = history ≡ 0
 CannotDo piece (MUnset history) machine = history ≡ 0
 CannotDo piece (MCopy history source) machine = history ≡ 0
 CannotDo piece (IfUnit greatest block) machine = machine.unit ≡ None
+CannotDo piece (IfIs unit block) machine = machine.unit ≡ None
+CannotDo piece (IfSet set block) machine = machine.unit ≡ None
+CannotDo piece (Switch cases last) machine = machine.unit ≡ None
 CannotDo piece (Back register) machine = machine.registers register ≡ None
 CannotDo piece _ machine = ⊥
 

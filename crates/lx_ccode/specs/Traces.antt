@@ -1,7 +1,7 @@
 -- Traces: the statements that a run makes, without a count of its loops; and the run that they tell.
 use Rattle.std.specs.Prelude.{◌≡◌, ℕ, zero, suc, ◌+◌, ◌<◌, ◌≤◌, Bool, true, false, List, [], ◌∷◌, Option, Some, None, if◌then◌else◌}
 use Rattle.lx_ccode.specs.declared.piece.Stmt.{Stmt}
-use Rattle.lx_ccode.specs.declared.piece.Stmt.TheVariants.{Peek, Skip, IfUnit, IfAccept, IfEnd, Try, Goto}
+use Rattle.lx_ccode.specs.declared.piece.Stmt.TheVariants.{Peek, Skip, IfUnit, IfIs, IfSet, IfAccept, IfEnd, Try, Goto}
 use Rattle.lx_ccode.specs.declared.piece.Piece.{Piece}
 use Rattle.lx_ccode.specs.Machine.{Machine, Answer, stuck, looped, Next, goes_on, ends, step}
 use Rattle.lx_ccode.specs.Runs.{Ended, ended, loop_count}
@@ -64,9 +64,11 @@ abbrev pub is_skip : Stmt → Bool
 is_skip Skip = true
 is_skip _ = false
 
--- the block to which the statement may jump
+-- the block to which the statement may jump; a Switch has more than one
 abbrev pub jump_target : Stmt → Option ℕ
 jump_target (IfUnit greatest block) = Some block
+jump_target (IfIs unit block) = Some block
+jump_target (IfSet set block) = Some block
 jump_target (IfAccept accept block) = Some block
 jump_target (IfEnd block) = Some block
 jump_target (Try block) = Some block

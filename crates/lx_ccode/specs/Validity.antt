@@ -1,20 +1,23 @@
 -- Which pieces are valid: those that the generator may emit and that a reader of outputs takes.
-use Rattle.std.specs.Prelude.{◌≡◌, ℕ, zero, suc, ◌<◌, ◌*◌, ◌≤◌, ◌^◌, ◌⊎◌, IfSome, Bool, true, false, List, [], ◌∷◌, length, map, Option, Some, None, ◌||◌, if◌then◌else◌}
+use Rattle.std.specs.Prelude.{◌++◌, ◌≡◌, ℕ, zero, suc, ◌<◌, ◌*◌, ◌≤◌, ◌^◌, ◌⊎◌, IfSome, Bool, true, false, List, [], ◌∷◌, length, map, Option, Some, None, ◌||◌, if◌then◌else◌}
 use Rattle.std.specs.List.{AllByRecursion, list_any}
 use Rattle.lx_base.specs.declared.limits.TheConstants.{STATEMENT_LIMIT}
 use Rattle.lx_base.specs.Letters.{IsIdentifier, equal_words}
 use Rattle.lx_base.specs.Names.{Spellings, AreAllowed, DoNotClash, AreDistinct, IsTagName}
-use Rattle.lx_base.specs.Names.{name_primitives}
+use Rattle.lx_base.specs.Names.{name_primitives, name_table}
 use Rattle.lx_ccode.specs.declared.piece.LineMark.{LineMark}
 use Rattle.lx_ccode.specs.declared.piece.Stmt.{Stmt}
-use Rattle.lx_ccode.specs.declared.piece.Stmt.TheVariants.{Peek, Skip, Backup, Restore, Accept, Set, Unset, Copy, MSet, MUnset, MCopy, IfUnit, IfAccept, IfEnd, State, Need, Try, Cond, Tag, Count, End, Back, Goto, Leave, Code, Jump}
+use Rattle.lx_ccode.specs.declared.piece.Stmt.TheVariants.{Peek, Skip, Backup, Restore, Accept, Set, Unset, Copy, MSet, MUnset, MCopy, IfUnit, IfIs, IfSet, IfAccept, IfEnd, State, Need, Try, Cond, Tag, Count, End, Back, Switch, Goto, Leave, Code, Jump}
 use Rattle.lx_ccode.specs.declared.piece.StateCase.{StateCase}
 use Rattle.lx_ccode.specs.declared.piece.CodeBlock.{CodeBlock}
+use Rattle.lx_ccode.specs.declared.piece.SwitchCase.{SwitchCase}
 use Rattle.lx_ccode.specs.declared.piece.Piece.{Piece}
 use Rattle.lx_ccode.specs.Agreement.{Agrees}
-use Rattle.lx_ccode.specs.Heads.{is_custom}
+use Rattle.lx_ccode.specs.Counts.{table_size}
+use Rattle.lx_ccode.specs.Heads.{is_custom, is_three}
+use Rattle.lx_ccode.specs.Labels.{is_like_block}
 use Rattle.lx_ccode.specs.States.{states_from, block_of, state_block}
-use Rattle.lx_ccode.specs.Statements.{all_statements, statement_count, is_ending, is_state, is_need, is_try, is_refill, has_register_one}
+use Rattle.lx_ccode.specs.Statements.{all_statements, statement_count, is_ending, is_of_three, is_state, is_switch, is_need, is_try, is_refill, has_register_one, names_table, targets}
 
 -- a number of a text, which has at most 4,294,967,295
 abbrev pub IsShort : ℕ → Type 0
@@ -33,6 +36,31 @@ abbrev pub IsLine : Option LineMark → Type 0
 IsLine None = Unit {0}
 IsLine (Some mark) = IsShort mark.line
 
+abbrev pub IsByte : ℕ → Type 0
+IsByte number = number < 256
+
+-- no unit stands twice
+abbrev pub AreUnitsOnce : List ℕ → Type 0
+AreUnitsOnce [] = Unit {0}
+AreUnitsOnce (unit ∷ units) = AllByRecursion (λ other. other ≡ unit → ⊥) units × AreUnitsOnce units
+
+-- the units of all cases, in order
+abbrev pub units_of : List SwitchCase → List ℕ
+units_of [] = []
+units_of (case ∷ cases) = case.units ++ units_of cases
+
+-- the case has a unit, and each of its units is one byte
+pub record IsSwitchCase (case : SwitchCase) : Type 0 where
+  pub some : 0 < length case.units
+  pub bytes : AllByRecursion IsByte case.units
+  pub block : IsLong case.block
+
+-- a switch over units has a case, and no unit stands twice
+pub record AreSwitchCases (cases : List SwitchCase) : Type 0 where
+  pub some : 0 < length cases
+  pub each : AllByRecursion IsSwitchCase cases
+  pub once : AreUnitsOnce (units_of cases)
+
 -- the statement has a spelling: its numbers are in range, its names are identifiers, and a user's tag is no other variable
 abbrev pub HasSpelling : Spellings → Stmt → Type 0
 HasSpelling names Peek = Unit {0}
@@ -47,6 +75,8 @@ HasSpelling names (MSet history) = IsShort history
 HasSpelling names (MUnset history) = IsShort history
 HasSpelling names (MCopy history source) = IsShort history × IsShort source
 HasSpelling names (IfUnit greatest block) = IsShort greatest × IsLong block
+HasSpelling names (IfIs unit block) = IsShort unit × IsLong block
+HasSpelling names (IfSet set block) = IsShort set × IsLong block
 HasSpelling names (IfAccept accept block) = IsShort accept × IsLong block
 HasSpelling names (IfEnd block) = IsLong block
 HasSpelling names (State state) = IsLong state
@@ -58,6 +88,7 @@ HasSpelling names (Tag tag false register) = IsTagName names tag × IsRegister r
 HasSpelling names (Count groups) = IsShort groups
 HasSpelling names (End place register) = IsShort place × IsRegister register
 HasSpelling names (Back register) = IsRegister register
+HasSpelling names (Switch cases last) = AreSwitchCases cases × IsLong last
 HasSpelling names (Goto block) = IsLong block
 HasSpelling names Leave = Unit {0}
 HasSpelling names (Code rule line action) = IsShort rule × IsLine line × IsShort (length action)
@@ -81,14 +112,9 @@ EachBlockHasSpelling names (block ∷ blocks) =
 
 -- where the statement jumps, it jumps to one of so many blocks
 abbrev pub JumpsBelow : (blocks : ℕ) → Stmt → Type 0
-JumpsBelow blocks (IfUnit greatest block) = block < blocks
-JumpsBelow blocks (IfAccept accept block) = block < blocks
-JumpsBelow blocks (IfEnd block) = block < blocks
-JumpsBelow blocks (Try block) = block < blocks
-JumpsBelow blocks (Goto block) = block < blocks
-JumpsBelow blocks _ = Unit {0}
+JumpsBelow blocks statement = AllByRecursion (λ block. block < blocks) (targets statement)
 
--- the last statement, and no other, is Goto, Leave, Code or Jump
+-- the last statement, and no other, is Switch, Goto, Leave, Code or Jump
 abbrev pub ends_once : List Stmt → Bool
 ends_once [] = false
 ends_once (statement ∷ []) = is_ending statement
@@ -137,7 +163,7 @@ AreOnce (case ∷ cases) = AllByRecursion (λ other. other.state ≡ case.state 
 abbrev pub IsStateSwitch : List CodeBlock → List StateCase → Type 0
 IsStateSwitch blocks cases = AreAscending cases × ((state : ℕ) → block_of cases state ≡ state_block blocks state)
 
-abbrev onto_labels : Option (List ℕ) → List (List ℕ) → List (List ℕ)
+abbrev pub onto_labels : Option (List ℕ) → List (List ℕ) → List (List ℕ)
 onto_labels None labels = labels
 onto_labels (Some label) labels = label ∷ labels
 
@@ -171,6 +197,7 @@ pub record IsInRange (piece : Piece) : Type 0 where
   pub states : IfSome piece.states (λ cases. AllByRecursion (λ case. IsLong case.state × IsLong case.block) cases)
   pub conds : AllByRecursion (λ case. IsIdentifier case.cond × IsLong case.block) piece.conds
   pub head : IfSome piece.head (λ head. IsShort head.regs × IsShort head.mregs × IsLong head.states)
+  pub table : AllByRecursion IsByte piece.table
 
 -- the rules that an emitted piece meets
 pub record IsValid (piece : Piece) : Type 0 where
@@ -185,7 +212,7 @@ pub record IsValid (piece : Piece) : Type 0 where
   pub statements : statement_count piece.blocks ≤ STATEMENT_LIMIT
   -- every jump goes to a block of the piece
   pub jumps : AllByRecursion (JumpsBelow (length piece.blocks)) (all_statements piece.blocks)
-  -- the last statement of a block, and no other, is Goto, Leave, Code or Jump
+  -- the last statement of a block, and no other, is Switch, Goto, Leave, Code or Jump
   pub ends : AllByRecursion (λ block. ends_once block.stmts ≡ true) piece.blocks
   -- a piece asks for refills in one way only
   pub one_refill : (list_any is_need (all_statements piece.blocks) ≡ false) ⊎ (list_any is_try (all_statements piece.blocks) ≡ false)
@@ -215,6 +242,17 @@ pub record IsValid (piece : Piece) : Type 0 where
   pub names_differ : DoNotClash piece.names
   -- in custom text no spelling means an input primitive
   pub no_primitive : is_custom piece.head ≡ true → name_primitives piece.names ≡ false
+  -- statements of format 3 stand in pieces of that format
+  pub of_three : list_any is_of_three (all_statements piece.blocks) ≡ true → is_three piece.head ≡ true
+  -- a switch over units stands where a unit is one byte
+  pub switches : list_any is_switch (all_statements piece.blocks) ≡ true → piece.unit ≡ 1
+  -- the table has a byte for each unit up to 0xFF and each eight sets, and there is none where no set is asked
+  pub table : length piece.table ≡ table_size piece.blocks
+  -- in a piece of format 3 neither a spelling nor a user's tag means the table
+  pub no_table : is_three piece.head ≡ true → name_table piece.names ≡ false
+  pub no_table_tag : is_three piece.head ≡ true → list_any names_table (all_statements piece.blocks) ≡ false
+  -- in a piece of format 3 no label of a condition begins as those of the piece's blocks do
+  pub no_block_label : is_three piece.head ≡ true → list_any (is_like_block piece.number piece.names) (labels piece.blocks) ≡ false
   -- the head, where there is one, tells the unit, the mode and the numbers of the piece
   pub head : IfSome piece.head (Agrees piece)
   -- every line can be spelled

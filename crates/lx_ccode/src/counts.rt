@@ -1,6 +1,6 @@
 //! How many registers and histories a piece has.
-ghost use Rattle.std.specs.Prelude.{◌≡◌, max};
-ghost use Rattle.lx_ccode.specs.Counts.{greatest_of, history_in, mregs_of, register_in, regs_of};
+ghost use Rattle.std.specs.Prelude.{◌≡◌, ◌≤◌, max};
+ghost use Rattle.lx_ccode.specs.Counts.{greatest_of, groups_in, history_in, mregs_of, register_in, regs_of, table_size};
 ghost use Rattle.lx_ccode.specs.Statements.{all_statements, has_register_one};
 
 use crate::piece::{CodeBlock, Stmt};
@@ -64,6 +64,46 @@ fn greatest_history(statements: &[Stmt]) -> u64
     let mut greatest = 0;
     for statement in statements {
         greatest = history_in(statement).max(greatest);
+    }
+    greatest
+}
+
+/// How many groups of eight sets there are up to the set that the statement asks, or 0.
+fn groups_in(statement: &Stmt) -> u64
+    ensures size { result ≡ groups_in statement.now }
+    ensures few { result ≤ 536870912 }
+{
+    match statement {
+        Stmt::IfSet(set, _) => u64::from(*set) / 8 + 1,
+        _ => 0,
+    }
+}
+
+fn greatest_group(statements: &[Stmt]) -> u64
+    ensures size { result ≡ greatest_of groups_in statements.now }
+    ensures few { result ≤ 536870912 }
+{
+    let mut greatest = 0;
+    for statement in statements {
+        greatest = groups_in(statement).max(greatest);
+    }
+    greatest
+}
+
+/// How many bytes the table of the blocks' sets has. It takes no memory.
+pub fn table_size(blocks: &[CodeBlock]) -> u64
+    ensures { result ≡ table_size blocks.now }
+{
+    256 * groups_of(blocks)
+}
+
+fn groups_of(blocks: &[CodeBlock]) -> u64
+    ensures size { result ≡ greatest_of groups_in (all_statements blocks.now) }
+    ensures few { result ≤ 536870912 }
+{
+    let mut greatest = 0;
+    for block in blocks {
+        greatest = greatest_group(block.stmts.as_slice()).max(greatest);
     }
     greatest
 }

@@ -1,10 +1,10 @@
 //! Writes the head line of a piece.
 ghost use Rattle.std.specs.Prelude.{◌≡◌, ◌++◌, [], OnOk, Some};
-ghost use Rattle.lx_ccode.specs.Heads.{custom_word, encoding_word, head_then, is_custom, mode_word};
+ghost use Rattle.lx_ccode.specs.Heads.{custom_word, encoding_word, format_word, head_then, is_custom, is_kept, is_three, kept_word, mode_word};
 
 use crate::numerals::{append_number, append_word};
 use crate::piece::{Head, Mode};
-use lx_base::{Enc, Memory};
+use lx_base::{Enc, Format, Memory};
 
 /// Whether a piece with this head reads its input by primitives of the user's. One without a head does not.
 pub fn is_custom(head: &Option<Head>) -> bool
@@ -16,10 +16,42 @@ pub fn is_custom(head: &Option<Head>) -> bool
     }
 }
 
+/// Whether a piece with this head is of format 3. One without a head is not.
+pub fn is_three(head: &Option<Head>) -> bool
+    ensures { result ≡ is_three head.now }
+{
+    match head {
+        None => false,
+        Some(head) => matches!(head.format, Format::Three),
+    }
+}
+
+fn format_word(format: Format) -> &'static [u8]
+    ensures { result.now ≡ format_word format }
+{
+    match format {
+        Format::Two => b"2 ",
+        Format::Three => b"3 ",
+    }
+}
+
 fn custom_word(custom: bool) -> &'static [u8]
     ensures { result.now ≡ custom_word custom }
 {
     if custom { b"custom " } else { b"" }
+}
+
+fn kept_word(kept: bool) -> &'static [u8]
+    ensures { result.now ≡ kept_word kept }
+{
+    if kept { b"kept " } else { b"" }
+}
+
+/// Whether the head of a piece says that the user declares the variables.
+pub(crate) fn is_kept(head: &Option<Head>, declares: bool) -> bool
+    ensures { result ≡ is_kept head.now declares }
+{
+    is_three(head) && !declares
 }
 
 fn encoding_word(enc: Enc) -> &'static [u8]
@@ -46,20 +78,21 @@ fn mode_word(mode: Mode) -> &'static [u8]
 }
 
 /// Appends the head line, where there is one. Where memory runs out a part of it may stand there.
-pub(crate) fn append_head(text: &mut Vec<u8>, head: &Option<Head>) -> Result<(), Memory>
-    ensures { OnOk result (text.new.items ≡ text.old.items ++ head_then head.now []) }
+pub(crate) fn append_head(text: &mut Vec<u8>, kept: bool, head: &Option<Head>) -> Result<(), Memory>
+    ensures { OnOk result (text.new.items ≡ text.old.items ++ head_then kept head.now []) }
 {
     match head {
         None => Ok(()),
-        Some(head) => append_head_line(text, head),
+        Some(head) => append_head_line(text, kept, head),
     }
 }
 
-fn append_head_line(text: &mut Vec<u8>, head: &Head) -> Result<(), Memory>
-    ensures { OnOk result (text.new.items ≡ text.old.items ++ head_then (Some head.now) []) }
+fn append_head_line(text: &mut Vec<u8>, kept: bool, head: &Head) -> Result<(), Memory>
+    ensures { OnOk result (text.new.items ≡ text.old.items ++ head_then kept (Some head.now) []) }
 {
     let custom = custom_word(head.custom);
-    append_word(text, b"/*!head:re2c 2 ", custom, encoding_word(head.enc))?;
+    append_word(text, b"/*!head:re2c ", format_word(head.format), custom)?;
+    append_word(text, kept_word(kept), encoding_word(head.enc), b"")?;
     append_word(text, b" ", mode_word(head.mode), b" ")?;
     append_number(text, b"", u64::from(head.regs), b" ")?;
     append_number(text, b"", u64::from(head.mregs), b" ")?;

@@ -9,7 +9,7 @@ ghost use Rattle.lx_ccode.specs.Marks.{EndsMarks, HasNoBegin, IsUnmarked, IsUnma
 ghost use Rattle.lx_ccode.specs.declared.piece.Stmt.{Stmt};
 ghost use Rattle.lx_ccode.specs.declared.piece.Piece.{Piece};
 ghost use Rattle.lx_ccode.specs.Effects.{ChangesOnly, answers_after, machine_after};
-ghost use Rattle.lx_ccode.specs.Front.{BeginsWithPiece};
+ghost use Rattle.lx_ccode.specs.Front.{BeginsWithPiece, BeginsWithPieceAt, IsPlaced};
 ghost use Rattle.lx_ccode.specs.Machine.{Answer, Machine, Outcome, code_at, ends, goes_on, step, stored_block, units_of_answers};
 ghost use Rattle.lx_ccode.specs.Reading.{piece_at};
 ghost use Rattle.lx_ccode.specs.Runs.{Ended, IsRun, ended, entry_block, fresh_machine, run_of};
@@ -21,29 +21,34 @@ ghost use Rattle.lx_ccode.specs.Text.{piece_text};
 ghost use Rattle.lx_ccode.specs.Traces.{IsTold, trace, trace_on};
 ghost use Rattle.lx_ccode.specs.Validity.{IsLine, IsShort, IsValid, JumpsBelow};
 
-/// A text has one reading: no text is that of two valid pieces, and none is a proper front of another's.
+/// A text has one reading: no text is that of two valid pieces or places, and none is a proper front of another's.
 pub fn texts_have_one_reading()
-    ensures one_piece { (piece other : Piece) → IsValid piece → IsValid other → piece_text piece ≡ piece_text other → piece ≡ other }
-    ensures no_front { (piece other : Piece) (tail : List ℕ) → IsValid piece → IsValid other → piece_text piece ++ tail ≡ piece_text other → tail ≡ [] }
-    ensures before_any_bytes { (piece other : Piece) (tail rest : List ℕ) → IsValid piece → IsValid other → piece_text piece ++ tail ≡ piece_text other ++ rest → (piece ≡ other) × (tail ≡ rest) }
+    ensures one_piece { (place mark : Option LineMark) (piece other : Piece) → IsValid piece → IsPlaced place piece → IsValid other → IsPlaced mark other
+        → piece_text place piece ≡ piece_text mark other → (piece ≡ other) × (place ≡ mark) }
+    ensures no_front { (place mark : Option LineMark) (piece other : Piece) (tail : List ℕ) → IsValid piece → IsPlaced place piece → IsValid other → IsPlaced mark other
+        → piece_text place piece ++ tail ≡ piece_text mark other → tail ≡ [] }
+    ensures before_any_bytes { (place mark : Option LineMark) (piece other : Piece) (tail rest : List ℕ) → IsValid piece → IsPlaced place piece → IsValid other → IsPlaced mark other
+        → piece_text place piece ++ tail ≡ piece_text mark other ++ rest → (piece ≡ other) × (place ≡ mark) × (tail ≡ rest) }
 {}
 
-/// Reading the text of a valid piece, with any bytes behind it, gives the piece and those bytes.
+/// Reading the text of a valid piece, with any bytes behind it, gives the piece, its place and those bytes.
 pub fn reading_gives_the_piece()
-    ensures { (piece : Piece) (tail : List ℕ) → IsValid piece → piece_at (piece_text piece ++ tail) ≡ (piece, tail) }
+    ensures { (place : Option LineMark) (piece : Piece) (tail : List ℕ) → IsValid piece → IsPlaced place piece → piece_at (piece_text place piece ++ tail) ≡ (piece, place, tail) }
 {}
 
 /// Where the text of some valid piece stands at the front of bytes, it is the text of the piece that is
-/// read there. So a reader need only test what it reads: where that piece is not valid, or its text does
-/// not stand there, no piece's text does.
+/// read there, at the place that is read. So a reader need only test what it reads: where that piece is not
+/// valid, or its text does not stand there, no piece's text does.
 pub fn reading_finds_the_piece()
-    ensures { (bytes : List ℕ) (piece : Piece) → BeginsWithPiece bytes piece → BeginsWithPiece bytes (piece_at bytes).0 }
+    ensures { (bytes : List ℕ) (piece : Piece) → BeginsWithPiece bytes piece
+        → IsValid (piece_at bytes).0 × IsPlaced (piece_at bytes).1 (piece_at bytes).0 × BeginsWithPieceAt bytes (piece_at bytes).1 (piece_at bytes).0 }
 {}
 
-/// In the text of a valid piece whose actions hold no begin mark, none stands but the piece's own: not across its end either,
+/// In the text of a valid piece whose actions and names of files hold no begin mark, none stands but the piece's own: not across its end either,
 /// where what stands behind completes none. The same holds of a piece without a scanner.
 pub fn begin_marks_stand_at_the_front()
-    ensures scanner { (piece : Piece) (behind : List ℕ) → IsValid piece → AllByRecursion IsUnmarked (all_statements piece.blocks) → IsUnmarkedLine piece.line → begins_piece (47 ∷ behind) ≡ false → HasNoBegin (drop 1 (piece_text piece)) behind }
+    ensures scanner { (place : Option LineMark) (piece : Piece) (behind : List ℕ) → IsValid piece → IsPlaced place piece → AllByRecursion IsUnmarked (all_statements piece.blocks) → IsUnmarkedLine piece.line → IsUnmarkedLine place
+        → begins_piece (47 ∷ behind) ≡ false → HasNoBegin (drop 1 (piece_text place piece)) behind }
     ensures empty { (number : ℕ) (names : Spellings) (line : Option LineMark) (behind : List ℕ) → IsShort number → IsLine line → IsUnmarkedLine line → begins_piece (47 ∷ behind) ≡ false → HasNoBegin (drop 1 (body_piece_text number names Empty line)) behind }
 {}
 

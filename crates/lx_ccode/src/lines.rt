@@ -1,19 +1,19 @@
 //! Writes the lines of statements.
-ghost use Rattle.std.specs.Prelude.{◌≡◌, ◌++◌, [], ◌∷◌, length, OnOk, codes};
+ghost use Rattle.std.specs.Prelude.{◌≡◌, ◌<◌, ◌*◌, ◌/◌, ◌%◌, ◌^◌, ◌++◌, [], ◌∷◌, length, false, true, OnOk, codes};
 ghost use Rattle.std.specs.Fmt.{decimal};
 ghost use Rattle.lx_base.specs.Text.{joined};
 ghost use Rattle.lx_base.specs.Names.{cursor, limit, refill, current_unit, last_accept, set_condition, condition_prefix, label_prefix};
 ghost use Rattle.lx_ccode.specs.Registers.{register_text, history_text};
 ghost use Rattle.lx_ccode.specs.Heads.{is_custom};
-ghost use Rattle.lx_ccode.specs.Text.{custom_then, pointer_then, statement_then, statements_then, line_then, escaped};
+ghost use Rattle.lx_ccode.specs.Text.{custom_then, group_text, hexadecimal, line_then, mark_of, escaped, pointer_then, set_test_then, statement_then, statements_then, switch_case_then, switch_cases_then, switch_then, units_then};
 ghost use Rattle.lx_ccode.specs.Wording.{scope_wording};
 
 use crate::heads::is_custom;
 use crate::numerals::{
-    append_block, append_bytes, append_hexadecimal, append_history, append_number, append_register,
-    append_word,
+    append_block, append_bytes, append_hexadecimal, append_history, append_long_hexadecimal,
+    append_number, append_register, append_word,
 };
-use crate::piece::{LineMark, Piece, Stmt};
+use crate::piece::{LineMark, Piece, Stmt, SwitchCase};
 use lx_base::{Memory, Names, append_parts, names};
 use std::alloc::Global;
 
@@ -31,15 +31,24 @@ pub struct Scope<'a> {
     pub ctx: bool,
     /// Whether the input is read by primitives of the user's.
     pub custom: bool,
+    /// The bytes of a code unit.
+    pub unit: u32,
+    /// For each block whether its own label stands; past the end of the list it does.
+    pub labels: &'a [bool],
+    /// The name of the file that the text is part of.
+    pub out: &'a [u8],
 }
 
 impl<'a> Scope<'a> {
-    /// What the lines of this piece depend on.
-    pub fn of(alloc: Global, piece: &'a Piece) -> Scope<'a>
+    /// What the lines of this piece depend on, of which these labels stand, in a file with this name.
+    pub fn of(alloc: Global, piece: &'a Piece, labels: &'a [bool], out: &'a [u8]) -> Scope<'a>
         ensures number { result.number ≡ piece.now.number }
         ensures names { result.names.now ≡ piece.now.names }
         ensures ctx { result.ctx ≡ piece.now.ctx }
         ensures custom { result.custom ≡ is_custom piece.now.head }
+        ensures unit { result.unit ≡ piece.now.unit }
+        ensures labels { result.labels.now ≡ labels.now }
+        ensures out { result.out.now ≡ out.now }
     {
         Scope {
             alloc,
@@ -47,6 +56,9 @@ impl<'a> Scope<'a> {
             names: &piece.names,
             ctx: piece.ctx,
             custom: is_custom(&piece.head),
+            unit: piece.unit,
+            labels,
+            out,
         }
     }
 }
@@ -111,6 +123,8 @@ impl Scope<'_> {
             }
             Stmt::MCopy(history, source) => self.append_history_copy(text, *history, *source),
             Stmt::IfUnit(greatest, block) => self.append_if_unit(text, *greatest, *block),
+            Stmt::IfIs(unit, block) => self.append_if_is(text, *unit, *block),
+            Stmt::IfSet(set, block) => self.append_if_set(text, *set, *block),
             Stmt::IfAccept(accept, block) => self.append_if_accept(text, *accept, *block),
             Stmt::IfEnd(block) => self.append_if_end(text, *block),
             Stmt::State(state) => self.append_state(text, *state),
@@ -122,6 +136,7 @@ impl Scope<'_> {
             Stmt::Count(groups) => append_value(text, b"yynmatch", *groups),
             Stmt::End(place, register) => self.append_group_end(text, *place, *register),
             Stmt::Back(register) => self.append_back(text, *register),
+            Stmt::Switch(cases, last) => self.append_switch(text, cases.as_slice(), *last),
             Stmt::Goto(block) => self.append_jump(text, *block),
             Stmt::Leave => self.append_leave(text),
             Stmt::Code(rule, line, code) => self.append_code(text, *rule, line, code.as_slice()),
@@ -283,6 +298,87 @@ impl Scope<'_> {
         append_block(text, b") goto yy", self.number, block, b";\n")
     }
 
+    fn append_if_is(&self, text: &mut Vec<u8>, unit: u32, block: u64) -> Result<(), Memory>
+        ensures { OnOk result (text.new.items ≡ text.old.items ++ pointer_then (scope_wording self.now) (Stmt.IfIs unit block) []) }
+    {
+        append_word(text, b"\tif (", names::current_unit(self.names), b" == 0x")?;
+        append_hexadecimal(self.alloc, text, unit)?;
+        append_block(text, b") goto yy", self.number, block, b";\n")
+    }
+
+    fn append_if_set(&self, text: &mut Vec<u8>, set: u32, block: u64) -> Result<(), Memory>
+        ensures { OnOk result (text.new.items ≡ text.old.items ++ pointer_then (scope_wording self.now) (Stmt.IfSet set block) []) }
+    {
+        if self.unit > 1 {
+            self.append_wide_test(text, set, block)
+        } else {
+            self.append_byte_test(text, set, block)
+        }
+    }
+
+    fn append_byte_test(&self, text: &mut Vec<u8>, set: u32, block: u64) -> Result<(), Memory>
+        ensures { OnOk result (text.new.items ≡ text.old.items ++ set_test_then false (scope_wording self.now) set block []) }
+    {
+        append_bytes(text, b"\tif (yybm[")?;
+        self.append_set(text, set)?;
+        append_block(text, b") goto yy", self.number, block, b";\n")
+    }
+
+    fn append_wide_test(&self, text: &mut Vec<u8>, set: u32, block: u64) -> Result<(), Memory>
+        ensures { OnOk result (text.new.items ≡ text.old.items ++ set_test_then true (scope_wording self.now) set block []) }
+    {
+        let current_unit = names::current_unit(self.names);
+        append_word(text, b"\tif (", current_unit, b" <= 0xFF && (yybm[")?;
+        self.append_set(text, set)?;
+        append_block(text, b")) goto yy", self.number, block, b";\n")
+    }
+
+    /// Appends what stands between the bracket of the table and the end of a test of a set.
+    fn append_set(&self, text: &mut Vec<u8>, set: u32) -> Result<(), Memory>
+        ensures { OnOk result (text.new.items ≡ text.old.items ++ joined (group_text (set / 8) ∷ current_unit self.now.names.now ∷ codes "] & 0x" ∷ hexadecimal (2 ^ (set % 8)) ∷ []) []) }
+    {
+        append_group(self.alloc, text, set / 8)?;
+        append_word(text, b"", names::current_unit(self.names), b"] & 0x")?;
+        append_hexadecimal(self.alloc, text, mask_of(set % 8))
+    }
+
+    fn append_switch(
+        &self,
+        text: &mut Vec<u8>,
+        cases: &[SwitchCase],
+        last: u64,
+    ) -> Result<(), Memory>
+        ensures { OnOk result (text.new.items ≡ text.old.items ++ switch_then (scope_wording self.now) cases.now last []) }
+    {
+        append_word(
+            text,
+            b"\tswitch (",
+            names::current_unit(self.names),
+            b") {\n",
+        )?;
+        self.append_switch_cases(text, cases)?;
+        append_block(text, b"\tdefault: goto yy", self.number, last, b";\n\t}\n")?;
+        Ok(())
+    }
+
+    fn append_switch_cases(&self, text: &mut Vec<u8>, cases: &[SwitchCase]) -> Result<(), Memory>
+        ensures { OnOk result (text.new.items ≡ text.old.items ++ switch_cases_then self.now.number cases.now []) }
+    {
+        for case in cases {
+            self.append_switch_case(text, case)?;
+        }
+        Ok(())
+    }
+
+    fn append_switch_case(&self, text: &mut Vec<u8>, case: &SwitchCase) -> Result<(), Memory>
+        ensures { OnOk result (text.new.items ≡ text.old.items ++ switch_case_then self.now.number case.now []) }
+    {
+        append_bytes(text, b"\t")?;
+        append_units(self.alloc, text, case.units.as_slice())?;
+        append_block(text, b"goto yy", self.number, case.block, b";\n")?;
+        Ok(())
+    }
+
     fn append_if_accept(&self, text: &mut Vec<u8>, accept: u32, block: u64) -> Result<(), Memory>
         ensures { OnOk result (text.new.items ≡ text.old.items ++ pointer_then (scope_wording self.now) (Stmt.IfAccept accept block) []) }
     {
@@ -363,6 +459,45 @@ impl Scope<'_> {
     }
 }
 
+/// Appends the place of a group of eight sets in the table, where it is not the first.
+fn append_group(alloc: Global, text: &mut Vec<u8>, group: u32) -> Result<(), Memory>
+    requires { group < 2 ^ 29 }
+    ensures { OnOk result (text.new.items ≡ text.old.items ++ group_text group) }
+{
+    if group == 0 {
+        return Ok(());
+    }
+    append_bytes(text, b"0x")?;
+    append_long_hexadecimal(alloc, text, 256 * u64::from(group))?;
+    append_bytes(text, b" + ")
+}
+
+/// The mask of a bit.
+fn mask_of(bit: u32) -> u32
+    requires { bit < 8 }
+    ensures { result ≡ 2 ^ bit }
+{
+    1 << bit
+}
+
+/// Appends units of a case.
+fn append_units(alloc: Global, text: &mut Vec<u8>, units: &[u8]) -> Result<(), Memory>
+    ensures { OnOk result (text.new.items ≡ text.old.items ++ units_then units.now []) }
+{
+    for unit in units {
+        append_unit(alloc, text, *unit)?;
+    }
+    Ok(())
+}
+
+fn append_unit(alloc: Global, text: &mut Vec<u8>, unit: u8) -> Result<(), Memory>
+    ensures { OnOk result (text.new.items ≡ text.old.items ++ joined (codes "case 0x" ∷ hexadecimal unit ∷ codes ": " ∷ []) []) }
+{
+    append_bytes(text, b"case 0x")?;
+    append_hexadecimal(alloc, text, u32::from(unit))?;
+    append_bytes(text, b": ")
+}
+
 fn append_skip(text: &mut Vec<u8>, cursor: &[u8]) -> Result<(), Memory>
     ensures { OnOk result (text.new.items ≡ text.old.items ++ joined (codes "\t++" ∷ cursor.now ∷ codes ";\n" ∷ []) []) }
 {
@@ -390,9 +525,19 @@ pub fn append_line(text: &mut Vec<u8>, line: &Option<LineMark>) -> Result<(), Me
 {
     match line {
         None => Ok(()),
-        Some(mark) => {
-            append_number(text, b"#line ", u64::from(mark.line), b" \"")?;
-            append_escaped(text, mark.file.as_slice())?;
+        Some(mark) => append_file_line(text, Some(mark.line), mark.file.as_slice()),
+    }
+}
+
+/// Appends the `#line` of a line of the file with this name, where there is a line.
+pub fn append_file_line(text: &mut Vec<u8>, line: Option<u32>, file: &[u8]) -> Result<(), Memory>
+    ensures { OnOk result (text.new.items ≡ text.old.items ++ line_then (mark_of file.now line) []) }
+{
+    match line {
+        None => Ok(()),
+        Some(line) => {
+            append_number(text, b"#line ", u64::from(line), b" \"")?;
+            append_escaped(text, file)?;
             append_parts(text, &[b"\"\n"])
         }
     }

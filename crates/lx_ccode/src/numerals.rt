@@ -1,5 +1,5 @@
 //! Writes words, numbers, registers and histories, of which lines consist.
-ghost use Rattle.std.specs.Prelude.{◌≡◌, ◌<◌, ◌++◌, [], ◌∷◌, codes, true, IfOk, OnOk, string_bytes};
+ghost use Rattle.std.specs.Prelude.{◌≡◌, ◌<◌, ◌≤◌, ◌++◌, [], ◌∷◌, codes, true, IfOk, OnOk, string_bytes};
 ghost use Rattle.std.specs.Fmt.{decimal, digit_glyph};
 ghost use Rattle.lx_base.specs.Text.{joined};
 ghost use Rattle.lx_ccode.specs.Registers.{register_text, history_text, variable_text};
@@ -96,6 +96,15 @@ pub fn append_hexadecimal(alloc: Global, text: &mut Vec<u8>, number: u32) -> Res
         return Ok(text.push(hexadecimal_digit(number % 16))?);
     }
     let digits = hexadecimal(alloc, number)?;
+    Ok(text.extend_from_slice(digits.as_bytes())?)
+}
+
+/// Appends a number of more than one digit in hexadecimal digits.
+pub fn append_long_hexadecimal(alloc: Global, text: &mut Vec<u8>, number: u64) -> Result<(), Memory>
+    requires { 16 ≤ number }
+    ensures { OnOk result (text.new.items ≡ text.old.items ++ hexadecimal number) }
+{
+    let digits = format!(in alloc; "{number:X}")?;
     Ok(text.extend_from_slice(digits.as_bytes())?)
 }
 

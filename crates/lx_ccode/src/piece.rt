@@ -1,7 +1,7 @@
 //! Emitted pieces: what stands in an output in the place of a block with rules.
 ghost use Rattle.std.specs.Prelude.{◌≡◌, [], IfOk, slice_index_or};
 
-use lx_base::{Enc, Memory, Names, Sequence};
+use lx_base::{Enc, Format, Memory, Names, Sequence};
 use lx_shared::SharedText;
 use std::alloc::Global;
 
@@ -24,6 +24,8 @@ pub struct Piece {
     pub declares: bool,
     /// Whether register 1 is spelled as the context marker.
     pub ctx: bool,
+    /// The table of sets: bit `set % 8` of the byte at `256 * (set / 8) + unit` says whether a unit is in a set.
+    pub table: Sequence<u8>,
     /// The cases of the switch over stored states, if the piece has one.
     pub states: Option<Sequence<StateCase>>,
     /// The cases of the switch over conditions; none where the piece has no conditions.
@@ -44,6 +46,7 @@ impl Drop for Piece {
             eof: _,
             declares: _,
             ctx: _,
+            table: _,
             states: _,
             conds: _,
             blocks: _,
@@ -70,6 +73,8 @@ pub enum Mode {
 /// What a piece tells of itself in its head line. It has to agree with the piece.
 #[derive(Clone, Copy, Debug)]
 pub struct Head {
+    /// The format of the piece's text.
+    pub format: Format,
     /// Whether the input is read by primitives of the user's, as `YYPEEK`, and not through pointers.
     pub custom: bool,
     /// The encoding of the input.
@@ -109,6 +114,18 @@ impl Drop for CodeBlock {
     }
 }
 
+/// Units of a switch over units, and the block where the scanner goes on for each of them.
+pub struct SwitchCase {
+    pub units: Sequence<u8>,
+    pub block: u64,
+}
+
+impl Drop for SwitchCase {
+    fn drop(self) {
+        let Self { units: _, block: _ } = self;
+    }
+}
+
 /// A line of a file, counted from 1, as a `#line` names it.
 #[derive(Drop)]
 pub struct LineMark {
@@ -130,7 +147,7 @@ impl LineMark {
     }
 }
 
-/// A statement: one line of a piece. The values stand in the order in which the line has them.
+/// A statement: one line of a piece, or the lines of a switch. The values stand in the order in which it has them.
 ///
 /// A register holds an offset or nothing, and is counted from 1. A history holds the offsets and the
 /// negative events of a tag that may match often, and is counted from 0; history 0 is never written.
@@ -159,6 +176,10 @@ pub enum Stmt {
     MCopy(u32, u32),
     /// Jumps to a block where the unit is at most the number.
     IfUnit(u32, u64),
+    /// Jumps to a block where the unit is the number.
+    IfIs(u32, u64),
+    /// Jumps to a block where the unit is in the set with this number, counted from 0.
+    IfSet(u32, u64),
     /// Jumps to a block where the number is the accepting state kept last.
     IfAccept(u32, u64),
     /// Jumps to a block where the cursor is at or past the limit.
@@ -179,6 +200,8 @@ pub enum Stmt {
     End(u32, u32),
     /// Moves the cursor back to a register, before the trailing context.
     Back(u32),
+    /// Jumps to the block of the case that has the unit, or else to the last block.
+    Switch(Sequence<SwitchCase>, u64),
     /// Jumps to a block.
     Goto(u64),
     /// Ends the match without a rule.
@@ -204,6 +227,8 @@ impl Drop for Stmt {
             Self::MUnset(_) => {}
             Self::MCopy(_, _) => {}
             Self::IfUnit(_, _) => {}
+            Self::IfIs(_, _) => {}
+            Self::IfSet(_, _) => {}
             Self::IfAccept(_, _) => {}
             Self::IfEnd(_) => {}
             Self::State(_) => {}
@@ -214,6 +239,7 @@ impl Drop for Stmt {
             Self::Count(_) => {}
             Self::End(_, _) => {}
             Self::Back(_) => {}
+            Self::Switch(_, _) => {}
             Self::Goto(_) => {}
             Self::Leave => {}
             Self::Code(_, _, _) => {}

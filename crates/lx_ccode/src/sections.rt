@@ -1,16 +1,68 @@
 //! Writes the parts of a piece that hold statements and switches.
-ghost use Rattle.std.specs.Prelude.{◌≡◌, ◌++◌, [], ◌∷◌, OnOk, Some, codes};
+ghost use Rattle.std.specs.Prelude.{◌≡◌, ◌++◌, [], ◌∷◌, IfOk, OnOk, Some, codes, slice_index_or, true};
 ghost use Rattle.std.specs.Fmt.{decimal};
 ghost use Rattle.lx_base.specs.Names.{get_state};
 ghost use Rattle.lx_base.specs.Text.{joined};
-ghost use Rattle.lx_ccode.specs.Text.{label_then, block_then, code_block_then, blocks_then, declarations_then, state_case_then, state_cases_then, start_then, state_switch_then, cond_cases_then, cond_switch_then};
+ghost use Rattle.lx_ccode.specs.Text.{label_then, block_label_then, block_lines_then, code_block_then, blocks_then, line_behind, line_then, mark_of, none_label_then, declarations_then, state_case_then, state_cases_then, start_then, state_switch_then, cond_cases_then, cond_switch_then, cell_then, cells_then, row_end, row_start, table_then};
 ghost use Rattle.lx_ccode.specs.Wording.{scope_wording};
 
-use crate::lines::Scope;
-use crate::numerals::{append_block, append_number, append_word};
+use crate::kinds::ends_in_code;
+use crate::lines::{Scope, append_file_line};
+use crate::numerals::{append_block, append_bytes, append_hexadecimal, append_number, append_word};
 use crate::piece::{CodeBlock, CondCase, StateCase};
+use crate::places::line_behind;
 use lx_base::{Memory, Names, Sequence, append_parts, names};
 use lx_shared::SharedText;
+use std::alloc::Global;
+
+/// Appends the table of sets, where the piece has one. Where memory runs out a part of it may stand there.
+pub fn append_table(alloc: Global, text: &mut Vec<u8>, table: &[u8]) -> Result<(), Memory>
+    ensures { OnOk result (text.new.items ≡ text.old.items ++ table_then table.now []) }
+{
+    if table.is_empty() {
+        return Ok(());
+    }
+    append_number(
+        text,
+        b"\tstatic const unsigned char yybm[",
+        table.len() as u64,
+        b"] = {\n",
+    )?;
+    append_cells(alloc, text, table)?;
+    append_parts(text, &[b"\t};\n"])?;
+    Ok(())
+}
+
+fn append_cells(alloc: Global, text: &mut Vec<u8>, table: &[u8]) -> Result<(), Memory>
+    ensures { OnOk result (text.new.items ≡ text.old.items ++ cells_then 0 table.now []) }
+{
+    for (place, byte) in table.iter().enumerate() {
+        append_cell(alloc, text, place, *byte)?;
+    }
+    Ok(())
+}
+
+fn append_cell(alloc: Global, text: &mut Vec<u8>, place: usize, byte: u8) -> Result<(), Memory>
+    ensures { OnOk result (text.new.items ≡ text.old.items ++ cell_then place byte []) }
+{
+    append_bytes(text, row_start(place % 16 == 0))?;
+    append_bytes(text, b"0x")?;
+    append_hexadecimal(alloc, text, u32::from(byte))?;
+    append_bytes(text, b",")?;
+    append_bytes(text, row_end(place % 16 == 15))
+}
+
+fn row_start(is_first: bool) -> &'static [u8]
+    ensures { result.now ≡ row_start is_first }
+{
+    if is_first { b"\t" } else { b"" }
+}
+
+fn row_end(is_last: bool) -> &'static [u8]
+    ensures { result.now ≡ row_end is_last }
+{
+    if is_last { b"\n" } else { b"" }
+}
 
 impl Scope<'_> {
     /// Appends the declarations of the two variables, where the piece has them.
@@ -92,24 +144,66 @@ impl Scope<'_> {
         Ok(())
     }
 
-    /// Appends blocks, of which the first is block 0.
-    pub fn append_blocks(&self, text: &mut Vec<u8>, blocks: &[CodeBlock]) -> Result<(), Memory>
-        ensures { OnOk result (text.new.items ≡ text.old.items ++ blocks_then (scope_wording self.now) 0 blocks.now []) }
+    /// Appends blocks, of which the first is block 0 and begins in this line, where lines are counted.
+    pub fn append_blocks(
+        &self,
+        text: &mut Vec<u8>,
+        line: Option<u32>,
+        blocks: &[CodeBlock],
+    ) -> Result<(), Memory>
+        ensures { OnOk result (text.new.items ≡ text.old.items ++ blocks_then (scope_wording self.now) line 0 blocks.now []) }
     {
+        let mut line = line;
         for (place, block) in blocks.iter().enumerate() {
-            self.append_code_block(text, place as u64, block)?;
+            line = self.append_code_block(text, line, place as u64, block)?;
         }
         Ok(())
     }
 
-    #[tactic(auto, using(crate::proofs::Tails::code_block_parts))]
-    fn append_code_block(
+    /// Appends a block that begins in this line, where lines are counted, and tells the line behind it.
+    pub fn append_code_block(
+        &self,
+        text: &mut Vec<u8>,
+        line: Option<u32>,
+        place: u64,
+        block: &CodeBlock,
+    ) -> Result<Option<u32>, Memory>
+        ensures { IfOk result (λ after. (text.new.items ≡ text.old.items ++ code_block_then (scope_wording self.now) line place block.now [])
+            × (after ≡ line_behind line (code_block_then (scope_wording self.now) line place block.now []))) }
+    {
+        let start = text.len();
+        self.append_block_lines(text, place, block)?;
+        let behind = line_behind(line, &text.as_slice()[start..]);
+        if ends_in_code(block.stmts.as_slice()) {
+            self.append_given_back(text, behind)
+        } else {
+            Ok(behind)
+        }
+    }
+
+    /// Appends a `#line` that stands in this line and gives the next one back to the file, where lines are
+    /// counted, and tells the line behind it.
+    fn append_given_back(
+        &self,
+        text: &mut Vec<u8>,
+        line: Option<u32>,
+    ) -> Result<Option<u32>, Memory>
+        ensures { IfOk result (λ after. (text.new.items ≡ text.old.items ++ line_then (mark_of self.now.out.now (line_behind line (codes "\n"))) [])
+            × (after ≡ line_behind line (line_then (mark_of self.now.out.now (line_behind line (codes "\n"))) []))) }
+    {
+        let start = text.len();
+        append_file_line(text, line_behind(line, b"\n"), self.out)?;
+        Ok(line_behind(line, &text.as_slice()[start..]))
+    }
+
+    /// Appends the labels of a block and its statements.
+    fn append_block_lines(
         &self,
         text: &mut Vec<u8>,
         place: u64,
         block: &CodeBlock,
     ) -> Result<(), Memory>
-        ensures { OnOk result (text.new.items ≡ text.old.items ++ code_block_then (scope_wording self.now) place block.now []) }
+        ensures { OnOk result (text.new.items ≡ text.old.items ++ block_lines_then (scope_wording self.now) place block.now []) }
     {
         self.append_cond_label(text, &block.cond)?;
         self.append_label(text, place)?;
@@ -138,18 +232,30 @@ impl Scope<'_> {
         }
     }
 
-    /// Appends the label of a block.
-    pub fn append_label(&self, text: &mut Vec<u8>, place: u64) -> Result<(), Memory>
-        ensures { OnOk result (text.new.items ≡ text.old.items ++ block_then self.now.number place (joined (codes ":\n" ∷ []) [])) }
+    /// Appends the label of a block, where it stands.
+    fn append_label(&self, text: &mut Vec<u8>, place: u64) -> Result<(), Memory>
+        ensures { OnOk result (text.new.items ≡ text.old.items ++ block_label_then (slice_index_or self.now.labels.now place true) self.now.number place []) }
     {
-        append_block(text, b"yy", self.number, place, b":\n")
+        let stands = match self.labels.get(place as usize) {
+            None => true,
+            Some(stands) => *stands,
+        };
+        if stands {
+            append_block(text, b"yy", self.number, place, b":\n")
+        } else {
+            Ok(())
+        }
     }
 
-    /// Appends the label behind the blocks and the closing brace.
-    pub fn append_none(&self, text: &mut Vec<u8>) -> Result<(), Memory>
-        ensures { OnOk result (text.new.items ≡ text.old.items ++ joined (codes "yy" ∷ decimal self.now.number ∷ codes "_none:;\n}\n" ∷ []) []) }
+    /// Appends the label behind the blocks, where it stands.
+    pub fn append_none(&self, text: &mut Vec<u8>, stands: bool) -> Result<(), Memory>
+        ensures { OnOk result (text.new.items ≡ text.old.items ++ none_label_then stands self.now.number []) }
     {
-        append_number(text, b"yy", u64::from(self.number), b"_none:;\n}\n")
+        if stands {
+            append_number(text, b"yy", u64::from(self.number), b"_none:;\n")
+        } else {
+            Ok(())
+        }
     }
 }
 

@@ -8,7 +8,7 @@ use Rattle.lx_ccode.specs.Statements.{all_statements}
 use Rattle.lx_ccode.specs.Validity.{EachBlockHasSpelling, EachHasSpelling, HasSpelling}
 use Rattle.lx_ccode.specs.declared.piece.CodeBlock.{CodeBlock}
 use Rattle.lx_ccode.specs.declared.piece.Stmt.{Stmt}
-use Rattle.lx_ccode.specs.declared.piece.Stmt.TheVariants.{Peek, Skip, Backup, Restore, Accept, Set, Unset, Copy, MSet, MUnset, MCopy, IfUnit, IfAccept, IfEnd, State, Need, Try, Cond, Tag, Count, End, Back, Goto, Leave, Code, Jump}
+use Rattle.lx_ccode.specs.declared.piece.Stmt.TheVariants.{Peek, Skip, Backup, Restore, Accept, Set, Unset, Copy, MSet, MUnset, MCopy, IfUnit, IfIs, IfSet, IfAccept, IfEnd, State, Need, Try, Cond, Tag, Count, End, Back, Switch, Goto, Leave, Code, Jump}
 use Rattle.lx_ccode.proofs.Greatest.{greatest_of-append}
 use Rattle.lx_compile.specs.Facts.{history_count, pieces_among}
 use Rattle.lx_compile.specs.Writing.{IsPrintable}
@@ -30,6 +30,8 @@ history_in-bound names (Set register) spelled = omega arith
 history_in-bound names (Unset register) spelled = omega arith
 history_in-bound names (Copy register source) spelled = omega arith
 history_in-bound names (IfUnit greatest block) spelled = omega arith
+history_in-bound names (IfIs unit block) spelled = omega arith
+history_in-bound names (IfSet set block) spelled = omega arith
 history_in-bound names (IfAccept accept block) spelled = omega arith
 history_in-bound names (IfEnd block) spelled = omega arith
 history_in-bound names (State state) spelled = omega arith
@@ -39,6 +41,7 @@ history_in-bound names (Cond cond) spelled = omega arith
 history_in-bound names (Count groups) spelled = omega arith
 history_in-bound names (End place register) spelled = omega arith
 history_in-bound names (Back register) spelled = omega arith
+history_in-bound names (Switch cases last) spelled = omega arith
 history_in-bound names (Goto block) spelled = omega arith
 history_in-bound names Leave spelled = omega arith
 history_in-bound names (Code rule line action) spelled = omega arith

@@ -12,6 +12,8 @@ use Rattle.lx_base.specs.declared.faults.Fault.TheVariants.{BadValue}
 use Rattle.lx_base.specs.declared.places.Pos.{Pos}
 use Rattle.lx_base.specs.declared.settings.Options.{Options}
 use Rattle.lx_ccode.specs.Bodies.{body_piece_text, body_then}
+use Rattle.lx_ccode.specs.Front.{IsPlaced}
+use Rattle.lx_ccode.specs.Heads.{is_three}
 use Rattle.lx_ccode.specs.Marks.{EndsMarks, HasNoBegin, IsUnmarkedLine, begins_piece}
 use Rattle.lx_ccode.specs.Statements.{all_statements}
 use Rattle.lx_ccode.specs.Text.{line_then, piece_text}
@@ -61,7 +63,7 @@ pub parts_text-among : (names : Spellings) (all : List Made) (number : ℕ) (som
 parts_text-among names all number [] = refl
 parts_text-among names all number (made.Outside text ∷ some) = ap (λ (l : List ℕ). text ++ l) (parts_text-among names all number some)
 parts_text-among names all number (made.Scanners piece checks warnings cover ∷ some) =
-    ap (λ (l : List ℕ). piece_text piece ++ l) (parts_text-among names all (suc number) some)
+    ap (λ (l : List ℕ). piece_text None piece ++ l) (parts_text-among names all (suc number) some)
 parts_text-among names all number (made.Bare at line directive ∷ some) =
     ap (λ (l : List ℕ). body_piece_text number names (body_of all directive) line ++ l) (parts_text-among names all (suc number) some)
     ∙ ap (λ (l : List ℕ). l ++ parts_text (output_parts names all (suc number) some)) (sym (bare_text number names (body_of all directive) line))
@@ -108,6 +110,10 @@ module _ (names : Spellings) (all : List Made) where
       let both = option_or-none (directive_fault names all at directive) (fault_among names all some) none in
       (both.0, no_faults some both.1)
 
+-- a piece of a format before 3 has no place
+IsPlaced-none : (piece : Piece) → is_three piece.head ≡ false → IsPlaced None piece
+IsPlaced-none piece old = record { line = tt; stands = rw old refl }
+
 line_stops : (line : Option LineMark) → Stops (codes "*!") (line_then line [])
 line_stops None = tt
 line_stops (Some mark) = refl
@@ -122,13 +128,13 @@ slash_cut cut text source slash ends free =
 ends_marks : (cut : List OutputPart) → begins_outside cut ≡ false → EndsMarks (parts_text cut)
 ends_marks [] none = tt
 ends_marks (outside text ∷ cut) none = absurd (false≢true (sym none))
-ends_marks (scanner piece ∷ cut) none = refl
+ends_marks (scanner place piece ∷ cut) none = refl
 ends_marks (bare number inner ∷ cut) none = refl
 
 slash_ends : (cut : List OutputPart) → begins_outside cut ≡ false → begins_piece (47 ∷ parts_text cut) ≡ false
 slash_ends [] none = refl
 slash_ends (outside text ∷ cut) none = absurd (false≢true (sym none))
-slash_ends (scanner piece ∷ cut) none = refl
+slash_ends (scanner place piece ∷ cut) none = refl
 slash_ends (bare number inner ∷ cut) none = refl
 
 -- a block's text ends with a slash
@@ -197,15 +203,17 @@ module _ (options : Options) (names : Spellings) (all : List Made) (setting : Se
 
   cut_scanners : (number first_state : ℕ) (at : Pos) (line : ℕ) (resolved : Resolved) (piece : Piece) (checks : List (List ℕ)) (rest : List OutputPart)
       → IsScannerPiece setting number first_state (line_mark setting at line) resolved piece checks → ArePlainActs resolved.acts
-      → begins_piece (47 ∷ parts_text rest) ≡ false → AreCut rest → AreCut (scanner piece ∷ rest)
+      → begins_piece (47 ∷ parts_text rest) ≡ false → AreCut rest → AreCut (scanner None piece ∷ rest)
   cut_scanners number first_state at line resolved piece checks rest is acts slash cut =
       let given = is.generated in
-      let mark : Option LineMark = line_mark setting at line in (
+      let mark : Option LineMark = line_mark setting at line in
+      let placed : IsPlaced None piece = IsPlaced-none piece (ap is_three given.fields.head) in (
         given.valid,
-        HasNoBegin-piece piece (parts_text rest) given.valid
+        placed,
+        HasNoBegin-piece None piece (parts_text rest) given.valid placed
             (all_unmarked (marks_of mark setting.names) (plain_marks mark setting.names plain) resolved.acts resolved.scanners is.autos checks
             (all_statements piece.blocks) acts given.actions)
-            (subst IsUnmarkedLine (sym given.fields.line) (IsUnmarkedLine-plain mark (line_plain at line))) slash,
+            (subst IsUnmarkedLine (sym given.fields.line) (IsUnmarkedLine-plain mark (line_plain at line))) tt slash,
         cut,
       )
 

@@ -6,7 +6,7 @@ use Rattle.std.proofs.lemmas.List.Elements.{All-contains, All-from_recursion}
 use Rattle.lx_auto.specs.declared.automaton.Auto.{Auto}
 use Rattle.lx_ccode.specs.Marks.{IsUnmarked, IsUnmarkedLine}
 use Rattle.lx_ccode.specs.declared.piece.Stmt.{Stmt}
-use Rattle.lx_ccode.specs.declared.piece.Stmt.TheVariants.{Peek, Skip, Backup, Restore, Accept, Set, Unset, Copy, MSet, MUnset, MCopy, IfUnit, IfAccept, IfEnd, State, Need, Try, Cond, Tag, Count, End, Back, Goto, Leave, Code, Jump}
+use Rattle.lx_ccode.specs.declared.piece.Stmt.TheVariants.{Peek, Skip, Backup, Restore, Accept, Set, Unset, Copy, MSet, MUnset, MCopy, IfUnit, IfIs, IfSet, IfAccept, IfEnd, State, Need, Try, Cond, Tag, Count, End, Back, Switch, Goto, Leave, Code, Jump}
 use Rattle.lx_gen.specs.Generated.{Marks, act_ending, endings_by, sources_of}
 use Rattle.lx_rules.specs.Numbered.{numbered_act}
 use Rattle.lx_layout.specs.Endings.{Ending}
@@ -82,6 +82,8 @@ module _ (marks : Marks) (plain : IfSome marks ArePlain) where
     unmarked (MUnset history) is = tt
     unmarked (MCopy history source) is = tt
     unmarked (IfUnit greatest block) is = tt
+    unmarked (IfIs unit block) is = tt
+    unmarked (IfSet set block) is = tt
     unmarked (IfAccept accept block) is = tt
     unmarked (IfEnd block) is = tt
     unmarked (State state) is = tt
@@ -92,6 +94,7 @@ module _ (marks : Marks) (plain : IfSome marks ArePlain) where
     unmarked (Count groups) is = tt
     unmarked (End place register) is = tt
     unmarked (Back register) is = tt
+    unmarked (Switch cases last) is = tt
     unmarked (Goto block) is = tt
     unmarked (Leave) is = tt
 

@@ -12,7 +12,7 @@ use Rattle.lx_compile.specs.declared.made.Made.TheVariants.{Outside, Scanners, B
 -- the part of an output that this is, where a piece has this number and directives speak of all that is made, by these spellings
 abbrev pub output_part : Spellings → (all : List Made) → (number : ℕ) → Made → OutputPart
 output_part names all number (Outside text) = outside text
-output_part names all number (Scanners piece checks warnings cover) = scanner piece
+output_part names all number (Scanners piece checks warnings cover) = scanner None piece
 output_part names all number (Bare at line directive) = bare number (body_then names (body_of all directive) (line_then line []))
 
 -- the number of the next piece

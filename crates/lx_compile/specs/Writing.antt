@@ -1,5 +1,5 @@
 -- The text of what is made of a source.
-use Rattle.std.specs.Prelude.{◌≡◌, ℕ, suc, List, [], ◌∷◌, ◌++◌, Option, Some}
+use Rattle.std.specs.Prelude.{◌≡◌, ℕ, suc, List, [], ◌∷◌, ◌++◌, Option, Some, None}
 use Rattle.lx_base.specs.Names.{Spellings}
 use Rattle.lx_base.specs.declared.faults.Fault.{Fault}
 use Rattle.lx_base.specs.declared.faults.Stop.{Stop}
@@ -16,7 +16,7 @@ use Rattle.lx_compile.specs.declared.made.Made.TheVariants.{Outside, Scanners, B
 abbrev pub text_among : Spellings → (all : List Made) → (number : ℕ) → List Made → List ℕ
 text_among names all number [] = []
 text_among names all number (Outside text ∷ made) = text ++ text_among names all number made
-text_among names all number (Scanners piece checks warnings cover ∷ made) = piece_text piece ++ text_among names all (suc number) made
+text_among names all number (Scanners piece checks warnings cover ∷ made) = piece_text None piece ++ text_among names all (suc number) made
 text_among names all number (Bare at line directive ∷ made) =
     body_piece_text number names (body_of all directive) line ++ text_among names all (suc number) made
 

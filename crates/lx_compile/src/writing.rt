@@ -137,7 +137,7 @@ fn append_all(
         match one {
             Made::Outside(text) => output.extend_from_slice(text.as_slice())?,
             Made::Scanners { piece, .. } => {
-                append_piece(alloc, output, piece)?;
+                append_piece(alloc, output, &None, piece)?;
                 number += 1;
             }
             Made::Bare {

@@ -8,12 +8,14 @@ use Rattle.std.proofs.Math.Seq.{drop-append_seam}
 use Rattle.std.proofs.lemmas.Bool.{cases_lt, false≢true}
 use Rattle.std.proofs.lemmas.List.{append_cancel_left, length-append}
 use Rattle.lx_base.specs.Letters.{begins_with, is_digit, after_letters, front_letters}
+use Rattle.lx_ccode.specs.Front.{IsPlaced}
 use Rattle.lx_ccode.specs.Heads.{head_then}
 use Rattle.lx_ccode.specs.Marks.{HasNoBegin, begins_piece}
 use Rattle.lx_ccode.specs.Reading.{piece_at}
 use Rattle.lx_ccode.specs.Text.{piece_text, piece_then}
 use Rattle.lx_ccode.specs.Validity.{IsShort, IsValid}
 use Rattle.lx_ccode.specs.declared.piece.Head.{Head}
+use Rattle.lx_ccode.specs.declared.piece.LineMark.{LineMark}
 use Rattle.lx_ccode.specs.declared.piece.Piece.{Piece}
 use Rattle.lx_ccode.proofs.RoundTrip.{piece_at-text}
 use Rattle.lx_ccode.proofs.Tails.{piece_text-append}
@@ -74,7 +76,7 @@ text-one (letter ∷ text) (next ∷ other) after after_letters first second non
 parts_text-starts : (parts : List OutputPart) → begins_outside parts ≡ false → Starts (parts_text parts)
 parts_text-starts [] none = inl refl
 parts_text-starts (outside text ∷ parts) none = absurd (false≢true (sym none))
-parts_text-starts (scanner piece ∷ parts) none = inr refl
+parts_text-starts (scanner place piece ∷ parts) none = inr refl
 parts_text-starts (bare number inner ∷ parts) none = inr refl
 
 -- ---- pieces
@@ -83,9 +85,9 @@ parts_text-starts (bare number inner ∷ parts) none = inr refl
 abbrev IsOtherMark : List ℕ → Type 0
 IsOtherMark bytes = (begins_with (codes "/*!") bytes ≡ true) × (begins_with (codes "/*!e") bytes ≡ false)
 
-head_mark : (head : Option Head) (text : List ℕ) → IsOtherMark (head_then head (codes "/*!names:re2c " ++ text))
-head_mark None text = (refl, refl)
-head_mark (Some head) text = (refl, refl)
+head_mark : (kept : Bool) (head : Option Head) (text : List ℕ) → IsOtherMark (head_then kept head (codes "/*!names:re2c " ++ text))
+head_mark kept None text = (refl, refl)
+head_mark kept (Some head) text = (refl, refl)
 
 line_mark : (headed : Bool) (rest : List ℕ) → IsOtherMark (drop 1 (scanner_line headed ++ rest))
 line_mark false rest = (refl, refl)
@@ -99,20 +101,20 @@ no_other_mark (letter ∷ inner) tail bytes none mark same =
     ∙ sym (ap (begins_with (codes "/*!")) same) ∙ mark.0)
 
 -- a head line or the line of the spellings stands there
-line_begins : (head : Option Head) (number : ℕ) (bytes text : List ℕ) → number < 2 ^ 32
-    → bytes ≡ begin_mark number ++ (codes "\n" ++ head_then head (codes "/*!names:re2c " ++ text)) → BeginsBlock None bytes
-line_begins None number bytes text h e = (number, h, false, text, e)
-line_begins (Some head) number bytes text h e = (number, h, true, _, e)
+line_begins : (kept : Bool) (head : Option Head) (number : ℕ) (bytes text : List ℕ) → number < 2 ^ 32
+    → bytes ≡ begin_mark number ++ (codes "\n" ++ head_then kept head (codes "/*!names:re2c " ++ text)) → BeginsBlock None bytes
+line_begins kept None number bytes text h e = (number, h, false, text, e)
+line_begins kept (Some head) number bytes text h e = (number, h, true, _, e)
 
 -- a piece of a scanner is none without one
-scanner-bare : (piece : Piece) (number : ℕ) (inner tail rest : List ℕ) → IsShort piece.number → IsShort number → HasNoOpener inner
-    → piece_text piece ++ tail ≡ part_text (bare number inner) ++ rest → ⊥
-scanner-bare piece number inner tail rest h k none same =
+scanner-bare : (place : Option LineMark) (piece : Piece) (number : ℕ) (inner tail rest : List ℕ) → IsShort piece.number → IsShort number → HasNoOpener inner
+    → piece_text place piece ++ tail ≡ part_text (bare number inner) ++ rest → ⊥
+scanner-bare place piece number inner tail rest h k none same =
     let behind : List ℕ = codes "/\n" ++ (inner ++ (codes "/*!end:re2c*/" ++ rest)) in
-    let whole : piece_then piece tail ≡ codes "/*!begin:re2c " ++ (decimal number ++ 42 ∷ behind) =
-    sym (piece_text-append piece tail) ∙ same ∙ bare-then number inner rest in
+    let whole : piece_then place piece tail ≡ codes "/*!begin:re2c " ++ (decimal number ++ 42 ∷ behind) =
+    sym (piece_text-append place piece tail) ∙ same ∙ bare-then number inner rest in
     let both = numbers-one piece.number number _ behind h k (ap (λ (l : List ℕ). drop 14 l) whole) in
-    no_other_mark inner rest _ (OpensNowhere-text inner none) (head_mark piece.head _) (ap (λ (l : List ℕ). drop 2 l) both.1)
+    no_other_mark inner rest _ (OpensNowhere-text inner none) (head_mark _ piece.head _) (ap (λ (l : List ℕ). drop 2 l) both.1)
 
 -- an opener stands at the front of an end mark, and not at that of a text in which none begins
 no_opener_first : (letter : ℕ) (text tail rest : List ℕ) → begins_with (codes "/*!") (letter ∷ text) ≡ false
@@ -146,11 +148,15 @@ bare-one number other inner next tail rest h k none free same =
           (behind ∙ ap (λ (l : List ℕ). l ++ (end ++ rest)) (sym inner_is))),
     )
 
-scanner-one : (piece other : Piece) (tail rest : List ℕ) → IsValid piece → IsValid other → piece_text piece ++ tail ≡ piece_text other ++ rest
-    → (piece ≡ other) × (tail ≡ rest)
-scanner-one piece other tail rest valid right same =
-    let read : (piece, tail) ≡ (other, rest) = sym (piece_at-text piece tail valid) ∙ ap piece_at same ∙ piece_at-text other rest right in
-    (ap (λ (found : Piece × List ℕ). found.0) read, ap (λ (found : Piece × List ℕ). found.1) read)
+scanner-one : (place mark : Option LineMark) (piece other : Piece) (tail rest : List ℕ) → IsValid piece → IsPlaced place piece → IsValid other → IsPlaced mark other
+    → piece_text place piece ++ tail ≡ piece_text mark other ++ rest → (place ≡ mark) × (piece ≡ other) × (tail ≡ rest)
+scanner-one place mark piece other tail rest valid placed right stands same =
+    let read : (piece, place, tail) ≡ (other, mark, rest) =
+    sym (piece_at-text place piece tail valid placed) ∙ ap piece_at same ∙ piece_at-text mark other rest right stands in (
+      ap (λ (found : Piece × Option LineMark × List ℕ). found.1) read,
+      ap (λ (found : Piece × Option LineMark × List ℕ). found.0) read,
+      ap (λ (found : Piece × Option LineMark × List ℕ). found.2) read,
+    )
 
 -- ---- one cut
 
@@ -166,30 +172,31 @@ not_empty (letter ∷ text) after some same = cc
 pub AreCut-one : (parts other : List OutputPart) → AreCut parts → AreCut other → parts_text parts ≡ parts_text other → parts ≡ other
 AreCut-one [] [] cut more same = refl
 AreCut-one [] (outside text ∷ other) cut more same = absurd (not_empty text (parts_text other) more.0 (sym same))
-AreCut-one [] (scanner piece ∷ other) cut more same = absurd cc
+AreCut-one [] (scanner place piece ∷ other) cut more same = absurd cc
 AreCut-one [] (bare number inner ∷ other) cut more same = absurd cc
 AreCut-one (outside text ∷ parts) [] cut more same = absurd (not_empty text (parts_text parts) cut.0 same)
-AreCut-one (scanner piece ∷ parts) [] cut more same = absurd cc
+AreCut-one (scanner place piece ∷ parts) [] cut more same = absurd cc
 AreCut-one (bare number inner ∷ parts) [] cut more same = absurd cc
 AreCut-one (outside text ∷ parts) (outside next ∷ other) cut more same =
     let text_is : text ≡ next = text-one text next (parts_text parts) (parts_text other) (parts_text-starts parts cut.1) (parts_text-starts other more.1) cut.2 more.2 same in
     let rest : parts_text parts ≡ parts_text other = append_cancel_left text (parts_text parts) (parts_text other) (same ∙ ap (λ (l : List ℕ). l ++ parts_text other) (sym text_is)) in
     ap (λ (l : List ℕ). outside l ∷ parts) text_is ∙ ap (λ (l : List OutputPart). outside next ∷ l) (AreCut-one parts other cut.3 more.3 rest)
-AreCut-one (outside text ∷ parts) (scanner piece ∷ other) cut more same =
-    absurd (outside-begins text (parts_text parts) (parts_text (scanner piece ∷ other)) cut.0 cut.2 refl same)
+AreCut-one (outside text ∷ parts) (scanner place piece ∷ other) cut more same =
+    absurd (outside-begins text (parts_text parts) (parts_text (scanner place piece ∷ other)) cut.0 cut.2 refl same)
 AreCut-one (outside text ∷ parts) (bare number inner ∷ other) cut more same =
     absurd (outside-begins text (parts_text parts) (parts_text (bare number inner ∷ other)) cut.0 cut.2 refl same)
-AreCut-one (scanner piece ∷ parts) (outside text ∷ other) cut more same =
-    absurd (outside-begins text (parts_text other) (parts_text (scanner piece ∷ parts)) more.0 more.2 refl (sym same))
+AreCut-one (scanner place piece ∷ parts) (outside text ∷ other) cut more same =
+    absurd (outside-begins text (parts_text other) (parts_text (scanner place piece ∷ parts)) more.0 more.2 refl (sym same))
 AreCut-one (bare number inner ∷ parts) (outside text ∷ other) cut more same =
     absurd (outside-begins text (parts_text other) (parts_text (bare number inner ∷ parts)) more.0 more.2 refl (sym same))
-AreCut-one (scanner piece ∷ parts) (scanner next ∷ other) cut more same =
-    let both = scanner-one piece next (parts_text parts) (parts_text other) cut.0 more.0 same in
-    ap (λ (p : Piece). scanner p ∷ parts) both.0 ∙ ap (λ (l : List OutputPart). scanner next ∷ l) (AreCut-one parts other cut.2 more.2 both.1)
-AreCut-one (scanner piece ∷ parts) (bare number inner ∷ other) cut more same =
-    absurd (scanner-bare piece number inner (parts_text parts) (parts_text other) cut.0.range.number more.0 more.1 same)
-AreCut-one (bare number inner ∷ parts) (scanner piece ∷ other) cut more same =
-    absurd (scanner-bare piece number inner (parts_text other) (parts_text parts) more.0.range.number cut.0 cut.1 (sym same))
+AreCut-one (scanner place piece ∷ parts) (scanner mark next ∷ other) cut more same =
+    let all = scanner-one place mark piece next (parts_text parts) (parts_text other) cut.0 cut.1 more.0 more.1 same in
+    ap (λ (m : Option LineMark). scanner m piece ∷ parts) all.0 ∙ ap (λ (p : Piece). scanner mark p ∷ parts) all.1
+    ∙ ap (λ (l : List OutputPart). scanner mark next ∷ l) (AreCut-one parts other cut.3 more.3 all.2)
+AreCut-one (scanner place piece ∷ parts) (bare number inner ∷ other) cut more same =
+    absurd (scanner-bare place piece number inner (parts_text parts) (parts_text other) cut.0.range.number more.0 more.1 same)
+AreCut-one (bare number inner ∷ parts) (scanner place piece ∷ other) cut more same =
+    absurd (scanner-bare place piece number inner (parts_text other) (parts_text parts) more.0.range.number cut.0 cut.1 (sym same))
 AreCut-one (bare number inner ∷ parts) (bare next text ∷ other) cut more same =
     let all = bare-one number next inner text (parts_text parts) (parts_text other) cut.0 more.0 cut.1 more.1 same in
     ap (λ (n : ℕ). bare n inner ∷ parts) all.0 ∙ ap (λ (l : List ℕ). bare next l ∷ parts) all.1
@@ -211,10 +218,11 @@ mark_number number asked after rest h k same =
     numbers-one number asked after (47 ∷ rest) h k (ap (λ (l : List ℕ). drop 14 l) same ∙ append_assoc (decimal asked) (codes "*/") rest)
 
 -- a begin mark at the front of a piece is that of the piece
-begins-scanner : (block : Option ℕ) (piece : Piece) (tail : List ℕ) → IfSome block IsShort → IsValid piece → BeginsBlock block (piece_text piece ++ tail) → Answers block (scanner piece)
-begins-scanner None piece tail short valid begins = tt
-begins-scanner (Some number) piece tail short valid begins =
-    (mark_number piece.number number _ begins.0 valid.range.number short (sym (piece_text-append piece tail) ∙ begins.1)).0
+begins-scanner : (block : Option ℕ) (place : Option LineMark) (piece : Piece) (tail : List ℕ) → IfSome block IsShort → IsValid piece → BeginsBlock block (piece_text place piece ++ tail)
+    → Answers block (scanner place piece)
+begins-scanner None place piece tail short valid begins = tt
+begins-scanner (Some number) place piece tail short valid begins =
+    (mark_number piece.number number _ begins.0 valid.range.number short (sym (piece_text-append place piece tail) ∙ begins.1)).0
 
 begins-bare : (block : Option ℕ) (number : ℕ) (inner tail : List ℕ) → IfSome block IsShort → IsShort number → HasNoOpener inner
     → BeginsBlock block (part_text (bare number inner) ++ tail) → Answers block (bare number inner)
@@ -232,11 +240,11 @@ within-one : (block : Option ℕ) (part : OutputPart) (parts : List OutputPart) 
     → (place : ℕ) → place < length (part_text part) → BeginsBlock block (drop place (part_text part ++ parts_text parts)) → ⊥
 within-one block (outside text) parts short cut none place within begins =
     false≢true (sym (HasNoBegin-at text (parts_text parts) cut.2 place within) ∙ begins-block block (drop place (text ++ parts_text parts)) begins)
-within-one block (scanner piece) parts short cut none zero within begins = none (begins-scanner block piece (parts_text parts) short cut.0 begins)
-within-one block (scanner piece) parts short cut none (suc place) within begins =
-    let size : length (piece_text piece) ≡ suc (length (drop 1 (piece_text piece))) = refl in
-    false≢true (sym (HasNoBegin-at (drop 1 (piece_text piece)) (parts_text parts) cut.1 place (omega (arith, within, size)))
-    ∙ begins-block block (drop place (drop 1 (piece_text piece) ++ parts_text parts)) begins)
+within-one block (scanner mark piece) parts short cut none zero within begins = none (begins-scanner block mark piece (parts_text parts) short cut.0 begins)
+within-one block (scanner mark piece) parts short cut none (suc place) within begins =
+    let size : length (piece_text mark piece) ≡ suc (length (drop 1 (piece_text mark piece))) = refl in
+    false≢true (sym (HasNoBegin-at (drop 1 (piece_text mark piece)) (parts_text parts) cut.2 place (omega (arith, within, size)))
+    ∙ begins-block block (drop place (drop 1 (piece_text mark piece) ++ parts_text parts)) begins)
 within-one block (bare number inner) parts short cut none zero within begins =
     none (begins-bare block number inner (parts_text parts) short cut.0 cut.1 begins)
 within-one block (bare number inner) parts short cut none (suc place) within begins =
@@ -247,7 +255,7 @@ within-one block (bare number inner) parts short cut none (suc place) within beg
 
 cut-behind : (part : OutputPart) (parts : List OutputPart) → AreCut (part ∷ parts) → AreCut parts
 cut-behind (outside text) parts cut = cut.3
-cut-behind (scanner piece) parts cut = cut.2
+cut-behind (scanner place piece) parts cut = cut.3
 cut-behind (bare number inner) parts cut = cut.3
 
 before-one : (block : Option ℕ) (parts rest : List OutputPart) → IfSome block IsShort → AreCut (parts ++ rest) → AllByRecursion (λ (part : OutputPart). Answers block part → ⊥) parts
@@ -271,11 +279,11 @@ mark-then number after = ap (λ (l : List ℕ). codes "/*!begin:re2c " ++ l) (sy
 answers-begin : (block : Option ℕ) (part : OutputPart) (parts : List OutputPart) → AreCut (part ∷ parts) → Answers block part → BeginsBlock block (part_text part ++ parts_text parts)
 answers-begin block (outside text) parts cut is = absurd is
 answers-begin None (bare number inner) parts cut is = absurd is
-answers-begin None (scanner piece) parts cut is =
-    line_begins piece.head piece.number (piece_text piece ++ parts_text parts) _ (omega (arith, cut.0.range.number))
-    (piece_text-append piece (parts_text parts) ∙ mark-then piece.number _)
-answers-begin (Some number) (scanner piece) parts cut is =
-    subst (λ (n : ℕ). BeginsBlock (Some n) (piece_text piece ++ parts_text parts)) is (_, piece_text-append piece (parts_text parts) ∙ mark-then piece.number _)
+answers-begin None (scanner place piece) parts cut is =
+    line_begins _ piece.head piece.number (piece_text place piece ++ parts_text parts) _ (omega (arith, cut.0.range.number))
+    (piece_text-append place piece (parts_text parts) ∙ mark-then piece.number _)
+answers-begin (Some number) (scanner place piece) parts cut is =
+    subst (λ (n : ℕ). BeginsBlock (Some n) (piece_text place piece ++ parts_text parts)) is (_, piece_text-append place piece (parts_text parts) ∙ mark-then piece.number _)
 answers-begin (Some number) (bare other inner) parts cut is =
     let behind : List ℕ = codes "\n" ++ (inner ++ (codes "/*!end:re2c*/" ++ parts_text parts)) in
     subst (λ (n : ℕ). BeginsBlock (Some n) (part_text (bare other inner) ++ parts_text parts)) is

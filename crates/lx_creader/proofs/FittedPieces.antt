@@ -10,18 +10,30 @@ use Rattle.lx_ccode.specs.declared.piece.Head.{Head}
 use Rattle.lx_ccode.specs.declared.piece.LineMark.{LineMark}
 use Rattle.lx_ccode.specs.declared.piece.Piece.{Piece}
 use Rattle.lx_ccode.specs.declared.piece.StateCase.{StateCase}
+use Rattle.lx_ccode.specs.declared.piece.SwitchCase.{SwitchCase}
 use Rattle.lx_ccode.specs.declared.piece.Stmt.{Stmt}
-use Rattle.lx_ccode.specs.declared.piece.Stmt.TheVariants.{Peek, Skip, Backup, Restore, Accept, Set, Unset, Copy, MSet, MUnset, MCopy, IfUnit, IfAccept, IfEnd, State, Need, Try, Cond, Tag, Count, End, Back, Goto, Leave, Code, Jump}
-use Rattle.lx_ccode.specs.Validity.{EachBlockHasSpelling, EachHasSpelling, HasSpelling, IsLine, IsLong, IsShort, IsValid}
-use Rattle.lx_ccode.specs.Front.{BeginsWithPiece}
+use Rattle.lx_ccode.specs.declared.piece.Stmt.TheVariants.{Peek, Skip, Backup, Restore, Accept, Set, Unset, Copy, MSet, MUnset, MCopy, IfUnit, IfIs, IfSet, IfAccept, IfEnd, State, Need, Try, Cond, Tag, Count, End, Back, Switch, Goto, Leave, Code, Jump}
+use Rattle.lx_ccode.specs.Validity.{EachBlockHasSpelling, EachHasSpelling, HasSpelling, IsByte, IsSwitchCase, IsLine, IsLong, IsShort, IsValid}
+use Rattle.lx_ccode.specs.Front.{BeginsWithPiece, BeginsWithPieceAt, IsPlaced}
 use Rattle.lx_ccode.specs.Reading.{piece_at}
-use Rattle.lx_creader.specs.Fitted.{fitted, fitted_block, fitted_cond, fitted_eof, fitted_head, fitted_line, fitted_state, fitted_statement, fitted_states, long, short}
+use Rattle.lx_creader.specs.Fitted.{fitted, fitted_block, fitted_case, fitted_cond, fitted_eof, fitted_head, fitted_line, fitted_state, fitted_statement, fitted_states, long, short, tiny}
 
 short_fits : (n : ℕ) → n < 2 ^ 32 → short n ≡ n
 short_fits n fits = omega arith
 
 long_fits : (n : ℕ) → n < 2 ^ 64 → long n ≡ n
 long_fits n fits = omega arith
+
+bytes_fit : (bytes : List ℕ) → AllByRecursion IsByte bytes → map tiny bytes ≡ bytes
+bytes_fit [] h = refl
+bytes_fit (byte ∷ bytes) h =
+    let small : byte < 256 = h.0 in
+    let same : tiny byte ≡ byte = omega (arith, small) in
+    λ i. same i ∷ bytes_fit bytes h.1 i
+
+switch_cases_fit : (cases : List SwitchCase) → AllByRecursion IsSwitchCase cases → map fitted_case cases ≡ cases
+switch_cases_fit [] h = refl
+switch_cases_fit (case ∷ cases) h = λ i. record { units = bytes_fit case.units h.0.bytes i; block = long_fits case.block h.0.block i } ∷ switch_cases_fit cases h.1 i
 
 fitted_line-fits : (line : Option LineMark) → IsLine line → fitted_line line ≡ line
 fitted_line-fits None fits = refl
@@ -40,6 +52,8 @@ fitted_statement-fits names (MSet a) h = λ i. MSet (short_fits a h i)
 fitted_statement-fits names (MUnset a) h = λ i. MUnset (short_fits a h i)
 fitted_statement-fits names (MCopy a b) h = λ i. MCopy (short_fits a h.0 i) (short_fits b h.1 i)
 fitted_statement-fits names (IfUnit a b) h = λ i. IfUnit (short_fits a h.0 i) (long_fits b h.1 i)
+fitted_statement-fits names (IfIs a b) h = λ i. IfIs (short_fits a h.0 i) (long_fits b h.1 i)
+fitted_statement-fits names (IfSet a b) h = λ i. IfSet (short_fits a h.0 i) (long_fits b h.1 i)
 fitted_statement-fits names (IfAccept a b) h = λ i. IfAccept (short_fits a h.0 i) (long_fits b h.1 i)
 fitted_statement-fits names (IfEnd b) h = λ i. IfEnd (long_fits b h i)
 fitted_statement-fits names (State b) h = λ i. State (long_fits b h i)
@@ -51,6 +65,7 @@ fitted_statement-fits names (Tag t false a) h = λ i. Tag t false (short_fits a 
 fitted_statement-fits names (Count a) h = λ i. Count (short_fits a h i)
 fitted_statement-fits names (End a r) h = λ i. End (short_fits a h.0 i) (short_fits r h.1.1 i)
 fitted_statement-fits names (Back r) h = λ i. Back (short_fits r h.1 i)
+fitted_statement-fits names (Switch cases b) h = λ i. Switch (switch_cases_fit cases h.0.each i) (long_fits b h.1 i)
 fitted_statement-fits names (Goto b) h = λ i. Goto (long_fits b h i)
 fitted_statement-fits names Leave h = refl
 fitted_statement-fits names (Code r l a) h = λ i. Code (short_fits r h.0 i) (fitted_line-fits l h.1 i) a
@@ -100,20 +115,31 @@ fitted-valid piece valid = λ i. record piece {
   head = head_fits piece.head valid.range.head i;
   unit = short_fits piece.unit (unit_fits piece.unit valid.unit) i;
   eof = eof_fits piece.unit piece.eof valid.unit valid.eof i;
+  table = bytes_fit piece.table valid.range.table i;
   states = states_fit piece.states valid.range.states i;
   conds = conds_fit piece.conds valid.range.conds i;
   blocks = blocks_fit piece.names piece.blocks valid.spelled i;
   line = fitted_line-fits piece.line valid.range.line i;
 }
 
+-- the piece that is valid, and whose text stands at the front of bytes with a place
+abbrev pub StandsAt : List ℕ → Option LineMark → Piece → Type 0
+StandsAt bytes place piece = IsValid piece × IsPlaced place piece × BeginsWithPieceAt bytes place piece
+
+pub BeginsWithPiece-at : (bytes : List ℕ) (place : Option LineMark) (piece : Piece) → StandsAt bytes place piece → BeginsWithPiece bytes piece
+BeginsWithPiece-at bytes place piece stands = record { valid = stands.0; place = place; placed = stands.1; rest = stands.2.0; text = stands.2.1 }
+
 -- reading finds each piece that stands at the front of bytes
 abbrev pub Finds : Type 0
-Finds = (bytes : List ℕ) (piece : Piece) → BeginsWithPiece bytes piece → BeginsWithPiece bytes (piece_at bytes).0
+Finds = (bytes : List ℕ) (piece : Piece) → BeginsWithPiece bytes piece → StandsAt bytes (piece_at bytes).1 (piece_at bytes).0
 
 pub none_stands : Finds → (bytes : List ℕ) → (IsValid (piece_at bytes).0 → ⊥) → (piece : Piece) → BeginsWithPiece bytes piece → ⊥
-none_stands finds bytes invalid piece stands = invalid (finds bytes piece stands).valid
+none_stands finds bytes invalid piece stands = invalid (finds bytes piece stands).0
 
-pub no_other_stands : Finds → (bytes : List ℕ) (read : Piece) → read ≡ fitted (piece_at bytes).0 → (BeginsWithPiece bytes read → ⊥) → (piece : Piece) → BeginsWithPiece bytes piece → ⊥
-no_other_stands finds bytes read is refused piece stands =
-    let front = finds bytes piece stands in
-    refused (subst (λ (p : Piece). BeginsWithPiece bytes p) (sym (is ∙ fitted-valid (piece_at bytes).0 front.valid)) front)
+pub no_other_stands : Finds → (bytes : List ℕ) (place : Option LineMark) (read : Piece) → read ≡ fitted (piece_at bytes).0 → place ≡ fitted_line (piece_at bytes).1
+    → (StandsAt bytes place read → ⊥) → (piece : Piece) → BeginsWithPiece bytes piece → ⊥
+no_other_stands finds bytes place read piece_is place_is refused piece stands =
+    let found = finds bytes piece stands in
+    let same = piece_is ∙ fitted-valid (piece_at bytes).0 found.0 in
+    let there = place_is ∙ fitted_line-fits (piece_at bytes).1 found.1.line in
+    refused (subst (λ (p : Piece). StandsAt bytes place p) (sym same) (subst (λ (mark : Option LineMark). StandsAt bytes mark (piece_at bytes).0) (sym there) found))

@@ -8,3 +8,5 @@ pub mod StateLists
 pub mod Searches
 pub mod Steps
 pub mod ValidParts
+pub mod UnitCases
+pub mod CondLabels

@@ -12,7 +12,7 @@ use Rattle.lx_ccode.specs.Agreement.{Agrees}
 use Rattle.lx_ccode.specs.States.{states_from}
 use Rattle.lx_ccode.specs.Statements.{all_statements}
 use Rattle.lx_ccode.specs.Validity.{AreOnce, EachBlockHasSpelling, EachHasSpelling, HasFewGroups, IsLong, IsStateSwitch, IsValid, JumpsBelow, NamesOneOf, ends_once, label_of, refills_after_states}
-use Rattle.lx_creader.specs.ValidParts.{IsValidBlock, IsValidCase, IsValidStatement, KeepCondRules, KeepsBlockRules, KeepsHeadRules, KeepsKindRules}
+use Rattle.lx_creader.specs.ValidParts.{IsValidBlock, IsValidCase, IsValidStatement, KeepCondRules, KeepsBlockRules, KeepsFormatRules, KeepsHeadRules, KeepsKindRules}
 
 all_map : {A : Type 0} {P Q : A → Type 0} → ((x : A) → P x → Q x) → (xs : List A) → AllByRecursion P xs → AllByRecursion Q xs
 all_map f [] all = tt
@@ -82,8 +82,8 @@ names_of conds = map (λ case. case.cond) conds
 
 pub IsValid-from : (piece : Piece) → AreOnce (states_from 0 piece.blocks) → IfSome piece.states (IsStateSwitch piece.blocks) → KeepsHeadRules piece
     → KeepCondRules piece.blocks piece.conds → KeepsBlockRules piece.names (names_of piece.conds) piece.blocks → KeepsKindRules piece.ctx piece.blocks
-    → IfSome piece.head (Agrees piece) → IsValid piece
-IsValid-from piece once switch head conds valid kinds agrees =
+    → IfSome piece.head (Agrees piece) → KeepsFormatRules piece → IsValid piece
+IsValid-from piece once switch head conds valid kinds agrees formats =
     let names = piece.names in
     let words = names_of piece.conds in
     let count = length piece.blocks in
@@ -94,6 +94,7 @@ IsValid-from piece once switch head conds valid kinds agrees =
         states = head.states;
         conds = all_map {P = IsValidCase piece.blocks} (λ case valid. (valid.identifier, valid.long)) piece.conds conds.valid;
         head = head.head;
+        table = head.table;
       };
       unit = head.unit.size;
       eof = head.unit.fits;
@@ -116,6 +117,12 @@ IsValid-from piece once switch head conds valid kinds agrees =
       names = head.names;
       names_differ = head.names_differ;
       no_primitive = head.no_primitive;
+      of_three = formats.of_three;
+      switches = formats.switches;
+      table = formats.table;
+      no_table = formats.no_table;
+      no_table_tag = formats.no_table_tag;
+      no_block_label = formats.no_block_label;
       head = agrees;
       spelled = blocks_spelled names words count piece.blocks valid.valid;
     }
@@ -130,6 +137,7 @@ head_of piece valid = record {
   names_differ = valid.names_differ;
   no_primitive = valid.no_primitive;
   head = valid.range.head;
+  table = valid.range.table;
 }
 
 pub conds_of : (piece : Piece) → IsValid piece → KeepCondRules piece.blocks piece.conds
@@ -150,16 +158,27 @@ blocks_of piece valid = record {
 pub kinds_of : (piece : Piece) → IsValid piece → KeepsKindRules piece.ctx piece.blocks
 kinds_of piece valid = record { one_refill = valid.one_refill; before_refills = valid.before_refills; next_block = valid.next_block; context = valid.ctx }
 
-pub IsValid-decides : (piece : Piece) (blocks : List CodeBlock) (conds : List CondCase) (head named valid kinds agree all : Bool) → blocks ≡ piece.blocks → conds ≡ piece.conds
+pub formats_of : (piece : Piece) → IsValid piece → KeepsFormatRules piece
+formats_of piece valid = record {
+  of_three = valid.of_three;
+  switches = valid.switches;
+  table = valid.table;
+  no_table = valid.no_table;
+  no_table_tag = valid.no_table_tag;
+  no_block_label = valid.no_block_label;
+}
+
+pub IsValid-decides : (piece : Piece) (blocks : List CodeBlock) (conds : List CondCase) (head named valid kinds agree formats all : Bool) → blocks ≡ piece.blocks → conds ≡ piece.conds
     → AreOnce (states_from 0 blocks) × IfSome piece.states (IsStateSwitch blocks) → IsTrue head ↔ KeepsHeadRules piece → IsTrue named ↔ KeepCondRules blocks conds
     → IsTrue valid ↔ KeepsBlockRules piece.names (names_of conds) blocks → IsTrue kinds ↔ KeepsKindRules piece.ctx blocks
-    → IsTrue agree ↔ IfSome piece.head (Agrees piece) → IsTrue all ↔ (IsTrue head × IsTrue named × IsTrue valid × IsTrue kinds × IsTrue agree) → IsTrue all ↔ IsValid piece
-IsValid-decides piece blocks conds head named valid kinds agree all blocks_is conds_is states head_is named_is fine_is kinds_is agree_is all_is =
+    → IsTrue agree ↔ IfSome piece.head (Agrees piece) → IsTrue formats ↔ KeepsFormatRules piece
+    → IsTrue all ↔ (IsTrue head × IsTrue named × IsTrue valid × IsTrue kinds × IsTrue agree × IsTrue formats) → IsTrue all ↔ IsValid piece
+IsValid-decides piece blocks conds head named valid kinds agree formats all blocks_is conds_is states head_is named_is fine_is kinds_is agree_is formats_is all_is =
     let states = subst (λ (b : List CodeBlock). AreOnce (states_from 0 b) × IfSome piece.states (IsStateSwitch b)) blocks_is states in
     let named_is = subst (λ (c : List CondCase). IsTrue named ↔ KeepCondRules piece.blocks c) conds_is (subst (λ (b : List CodeBlock). IsTrue named ↔ KeepCondRules b conds) blocks_is named_is) in
     let fine_is = subst (λ (c : List CondCase). IsTrue valid ↔ KeepsBlockRules piece.names (names_of c) piece.blocks) conds_is
     (subst (λ (b : List CodeBlock). IsTrue valid ↔ KeepsBlockRules piece.names (names_of conds) b) blocks_is fine_is) in
     let kinds_is = subst (λ (b : List CodeBlock). IsTrue kinds ↔ KeepsKindRules piece.ctx b) blocks_is kinds_is in (
-      λ e. let each = all_is.0 e in IsValid-from piece states.0 states.1 (head_is.0 each.0) (named_is.0 each.1) (fine_is.0 each.2) (kinds_is.0 each.3) (agree_is.0 each.4),
-      λ valid. all_is.1 (head_is.1 (head_of piece valid), named_is.1 (conds_of piece valid), fine_is.1 (blocks_of piece valid), kinds_is.1 (kinds_of piece valid), agree_is.1 valid.head),
+      λ e. let each = all_is.0 e in IsValid-from piece states.0 states.1 (head_is.0 each.0) (named_is.0 each.1) (fine_is.0 each.2) (kinds_is.0 each.3) (agree_is.0 each.4) (formats_is.0 each.5),
+      λ valid. all_is.1 (head_is.1 (head_of piece valid), named_is.1 (conds_of piece valid), fine_is.1 (blocks_of piece valid), kinds_is.1 (kinds_of piece valid), agree_is.1 valid.head, formats_is.1 (formats_of piece valid)),
     )

@@ -3,10 +3,11 @@ use Rattle.std.specs.Prelude.{ℕ, List, Option, Some, None, map, min}
 use Rattle.lx_ccode.specs.declared.piece.Head.{Head}
 use Rattle.lx_ccode.specs.declared.piece.LineMark.{LineMark}
 use Rattle.lx_ccode.specs.declared.piece.Stmt.{Stmt}
-use Rattle.lx_ccode.specs.declared.piece.Stmt.TheVariants.{Peek, Skip, Backup, Restore, Accept, Set, Unset, Copy, MSet, MUnset, MCopy, IfUnit, IfAccept, IfEnd, State, Need, Try, Cond, Tag, Count, End, Back, Goto, Leave, Code, Jump}
+use Rattle.lx_ccode.specs.declared.piece.Stmt.TheVariants.{Peek, Skip, Backup, Restore, Accept, Set, Unset, Copy, MSet, MUnset, MCopy, IfUnit, IfIs, IfSet, IfAccept, IfEnd, State, Need, Try, Cond, Tag, Count, End, Back, Switch, Goto, Leave, Code, Jump}
 use Rattle.lx_ccode.specs.declared.piece.StateCase.{StateCase}
 use Rattle.lx_ccode.specs.declared.piece.CondCase.{CondCase}
 use Rattle.lx_ccode.specs.declared.piece.CodeBlock.{CodeBlock}
+use Rattle.lx_ccode.specs.declared.piece.SwitchCase.{SwitchCase}
 use Rattle.lx_ccode.specs.declared.piece.Piece.{Piece}
 
 -- the number, or the greatest of 32 bits
@@ -16,6 +17,13 @@ short number = min number 4294967295
 -- the number, or the greatest of 64 bits
 abbrev pub long : ℕ → ℕ
 long number = min number 18446744073709551615
+
+-- the number, or the greatest of a byte
+abbrev pub tiny : ℕ → ℕ
+tiny number = min number 255
+
+abbrev pub fitted_case : SwitchCase → SwitchCase
+fitted_case case = record { units = map tiny case.units; block = long case.block }
 
 abbrev pub fitted_mark : LineMark → LineMark
 fitted_mark mark = record mark { line = short mark.line }
@@ -37,6 +45,8 @@ fitted_statement (MSet history) = MSet (short history)
 fitted_statement (MUnset history) = MUnset (short history)
 fitted_statement (MCopy history source) = MCopy (short history) (short source)
 fitted_statement (IfUnit greatest block) = IfUnit (short greatest) (long block)
+fitted_statement (IfIs unit block) = IfIs (short unit) (long block)
+fitted_statement (IfSet set block) = IfSet (short set) (long block)
 fitted_statement (IfAccept accept block) = IfAccept (short accept) (long block)
 fitted_statement (IfEnd block) = IfEnd (long block)
 fitted_statement (State state) = State (long state)
@@ -47,6 +57,7 @@ fitted_statement (Tag tag is_history register) = Tag tag is_history (short regis
 fitted_statement (Count groups) = Count (short groups)
 fitted_statement (End place register) = End (short place) (short register)
 fitted_statement (Back register) = Back (short register)
+fitted_statement (Switch cases last) = Switch (map fitted_case cases) (long last)
 fitted_statement (Goto block) = Goto (long block)
 fitted_statement Leave = Leave
 fitted_statement (Code rule line action) = Code (short rule) (fitted_line line) action
@@ -82,6 +93,7 @@ fitted piece = record piece {
   head = fitted_head piece.head;
   unit = short piece.unit;
   eof = fitted_eof piece.eof;
+  table = map tiny piece.table;
   states = fitted_states piece.states;
   conds = map fitted_cond piece.conds;
   blocks = map fitted_block piece.blocks;

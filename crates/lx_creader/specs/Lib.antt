@@ -4,3 +4,4 @@ pub mod ValidParts
 pub mod Fitted
 pub mod Marks
 pub mod Refusals
+pub mod UnitCases

@@ -4,14 +4,16 @@ use Rattle.std.specs.List.{AllByRecursion, list_any}
 use Rattle.lx_base.specs.declared.limits.TheConstants.{STATEMENT_LIMIT}
 use Rattle.lx_base.specs.Letters.{IsIdentifier}
 use Rattle.lx_base.specs.Names.{AreAllowed, AreDistinct, DoNotClash, Spellings}
-use Rattle.lx_base.specs.Names.{name_primitives}
+use Rattle.lx_base.specs.Names.{name_primitives, name_table}
 use Rattle.lx_ccode.specs.declared.piece.Stmt.{Stmt}
 use Rattle.lx_ccode.specs.declared.piece.CodeBlock.{CodeBlock}
 use Rattle.lx_ccode.specs.declared.piece.CondCase.{CondCase}
 use Rattle.lx_ccode.specs.declared.piece.Piece.{Piece}
-use Rattle.lx_ccode.specs.Heads.{is_custom}
-use Rattle.lx_ccode.specs.Statements.{all_statements, has_register_one, is_need, is_state, is_try, statement_count}
-use Rattle.lx_ccode.specs.Validity.{HasFewGroups, HasSpelling, IsLabel, IsLine, IsLong, IsShort, JumpsBelow, NamesOneOf, ends_once, label_of, labels, last_statements, refills_after_states, states_before_refills, tries_after_state}
+use Rattle.lx_ccode.specs.Counts.{table_size}
+use Rattle.lx_ccode.specs.Heads.{is_custom, is_three}
+use Rattle.lx_ccode.specs.Labels.{is_like_block}
+use Rattle.lx_ccode.specs.Statements.{all_statements, has_register_one, is_need, is_of_three, is_state, is_switch, is_try, names_table, statement_count}
+use Rattle.lx_ccode.specs.Validity.{HasFewGroups, HasSpelling, IsByte, IsLabel, IsLine, IsLong, IsShort, JumpsBelow, NamesOneOf, ends_once, label_of, labels, last_statements, refills_after_states, states_before_refills, tries_after_state}
 
 -- the statement keeps the rules in a piece with these spellings, these conditions and so many blocks
 pub record IsValidStatement (names : Spellings) (conds : List (List ℕ)) (blocks : ℕ) (statement : Stmt) : Type 0 where
@@ -55,6 +57,16 @@ pub record KeepsHeadRules (piece : Piece) : Type 0 where
   pub names_differ : DoNotClash piece.names
   pub no_primitive : is_custom piece.head ≡ true → name_primitives piece.names ≡ false
   pub head : IfSome piece.head (λ head. IsShort head.regs × IsShort head.mregs × IsLong head.states)
+  pub table : AllByRecursion IsByte piece.table
+
+-- the rules of formats: what stands in pieces of format 3 alone, and what these may not have
+pub record KeepsFormatRules (piece : Piece) : Type 0 where
+  pub of_three : list_any is_of_three (all_statements piece.blocks) ≡ true → is_three piece.head ≡ true
+  pub switches : list_any is_switch (all_statements piece.blocks) ≡ true → piece.unit ≡ 1
+  pub table : length piece.table ≡ table_size piece.blocks
+  pub no_table : is_three piece.head ≡ true → name_table piece.names ≡ false
+  pub no_table_tag : is_three piece.head ≡ true → list_any names_table (all_statements piece.blocks) ≡ false
+  pub no_block_label : is_three piece.head ≡ true → list_any (is_like_block piece.number piece.names) (labels piece.blocks) ≡ false
 
 -- the rules of blocks one by one
 pub record KeepsBlockRules (names : Spellings) (conds : List (List ℕ)) (blocks : List CodeBlock) : Type 0 where

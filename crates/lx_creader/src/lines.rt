@@ -1,15 +1,16 @@
 //! Reads the lines of statements.
-ghost use Rattle.std.specs.Prelude.{◌≡◌, Option, drop, reverse, min, IfOk};
+ghost use Rattle.std.specs.Prelude.{◌≡◌, ◌≤◌, ◌+◌, ◌*◌, ◌/◌, Option, drop, reverse, min, IfOk};
 ghost use Rattle.lx_base.specs.Letters.{after_letters, is_in_identifier};
 ghost use Rattle.lx_ccode.specs.declared.piece.LineMark.{LineMark};
-ghost use Rattle.lx_ccode.specs.Reading.{argument, assigned, begins_statement, call_of, callee, called, code_at, enclosed, goto_at, history_of, if_at, is_context_marker, primitive_called, primitive_if_at, register_assigned, register_of, statement_at, test_at};
-ghost use Rattle.lx_creader.specs.Fitted.{fitted_line, fitted_statement};
+ghost use Rattle.lx_ccode.specs.Reading.{argument, assigned, begins_statement, bit_place, call_of, callee, called, code_at, enclosed, goto_at, history_of, if_at, is_context_marker, less_at, primitive_called, primitive_if_at, register_assigned, register_of, set_at, set_test_at, statement_at, test_at, test_or_switch_at};
+ghost use Rattle.lx_creader.specs.Fitted.{fitted_line, fitted_statement, short};
 
 use crate::marks::{block_at, goto_block, goto_tail, mark_at};
+use crate::switches::switch_at;
 use crate::words::{
     after_digits, after_hexadecimal, after_identifier, after_spelling, byte_at, count_at,
-    front_identifier, front_spelling, hexadecimal_at, long_at, long_of, short_at, short_of, skip,
-    taken,
+    front_identifier, front_spelling, hexadecimal_at, long_at, long_hexadecimal_at, long_of,
+    short_at, short_of, shortened, skip, taken,
 };
 use lx_base::letters::{begins_with, equal_words, is_digit, is_in_identifier};
 use lx_base::names::{self, is_history_register, is_register};
@@ -29,6 +30,12 @@ pub(crate) struct Scope<'a> {
     pub names: &'a Names,
     /// Whether the input is read by primitives of the user's.
     pub custom: bool,
+    /// Whether the piece is of format 3.
+    pub three: bool,
+    /// Whether a `#line` stands behind each user's action.
+    pub placed: bool,
+    /// How the labels of blocks begin, `yyN_`.
+    pub front: &'a [u8],
 }
 
 impl Scope<'_> {
@@ -188,10 +195,7 @@ impl Scope<'_> {
         let rest = after_spelling(bytes);
         let sign = byte_at(rest, 1);
         if sign == b'<' {
-            let number = skip(rest, 6);
-            let next = skip(after_hexadecimal(number), 1);
-            let test = Stmt::IfUnit(hexadecimal_at(number), goto_block(next));
-            (test, false, goto_tail(next))
+            less_at(rest)
         } else if sign == b'>' {
             let next = after_spelling(skip(rest, 4));
             (Stmt::IfEnd(goto_block(next)), false, goto_tail(next))
@@ -199,6 +203,13 @@ impl Scope<'_> {
             let next = skip(after_spelling(skip(rest, 3)), 3);
             let tail = after_spelling(skip(after_digits(next), 2));
             (Stmt::Need(short_at(next)), false, skip(tail, 2))
+        } else if byte_at(rest, 2) == b' ' {
+            set_test_at(1, bytes)
+        } else if byte_at(rest, 5) == b'x' {
+            let number = skip(rest, 6);
+            let next = skip(after_hexadecimal(number), 1);
+            let test = Stmt::IfIs(hexadecimal_at(number), goto_block(next));
+            (test, false, goto_tail(next))
         } else if equal_words(front_spelling(bytes), names::last_accept(self.names)) {
             let number = skip(rest, 4);
             let next = skip(after_digits(number), 1);
@@ -217,7 +228,7 @@ impl Scope<'_> {
     {
         let rest = after_spelling(bytes);
         let sign = byte_at(rest, 1);
-        if sign == b'<' || sign == b'=' {
+        if sign == b'<' || sign == b'=' || byte_at(rest, 2) == b' ' {
             return self.if_at(bytes);
         }
         let next = after_spelling(skip(rest, 1));
@@ -236,6 +247,17 @@ impl Scope<'_> {
             self.primitive_if_at(bytes)
         } else {
             self.if_at(bytes)
+        }
+    }
+
+    /// A statement, behind its `if (` or its `switch (`, where it begins at these bytes.
+    fn test_or_switch_at<'b>(&self, start: &[u8], bytes: &'b [u8]) -> Result<Read<'b>, Memory>
+        ensures { IfOk result (λ read. (read.0 ≡ fitted_statement (test_or_switch_at self.now.custom self.now.names.now start.now bytes.now).0) × (read.1 ≡ (test_or_switch_at self.now.custom self.now.names.now start.now bytes.now).1) × (read.2.now ≡ (test_or_switch_at self.now.custom self.now.names.now start.now bytes.now).2)) }
+    {
+        if byte_at(start, 1) == b's' {
+            switch_at(self.alloc, bytes)
+        } else {
+            Ok(self.test_at(bytes))
         }
     }
 
@@ -300,10 +322,79 @@ impl Scope<'_> {
             let (statement, is_context) = self.assigned(word, front_spelling(source))?;
             Ok((statement, is_context, skip(after_spelling(source), 2)))
         } else if second == b'(' {
-            Ok(self.test_at(skip(rest, 2)))
+            self.test_or_switch_at(bytes, skip(rest, 2))
         } else {
             self.goto_at(skip(rest, 1))
         }
+    }
+}
+
+/// The bit of a mask that has one.
+fn bit_place(mask: u32) -> u32
+    ensures bit { result ≡ bit_place mask }
+    ensures few { result ≤ 7 }
+{
+    match mask {
+        1 => 0,
+        2 => 1,
+        4 => 2,
+        8 => 3,
+        16 => 4,
+        32 => 5,
+        64 => 6,
+        _ => 7,
+    }
+}
+
+/// The set with this bit in the group of eight sets at this place of the table; the greatest number where it has
+/// no room.
+fn set_of(place: u64, bit: u32) -> u32
+    requires { bit ≤ 7 }
+    ensures { result ≡ min (8 * (place / 256) + bit) 4294967295 }
+{
+    shortened(place / 256 * 8 + u64::from(bit))
+}
+
+/// The set whose table is asked at `yybm[`, and what comes behind its mask.
+#[tactic(auto, unfolding(lx_ccode::specs::Reading::set_at))]
+fn set_at(bytes: &[u8]) -> (u32, &[u8])
+    ensures { (result.0 ≡ short (set_at bytes.now).0) × (result.1.now ≡ (set_at bytes.now).1) }
+{
+    let rest = after_spelling(bytes);
+    if byte_at(rest, 1) == b'+' {
+        let mask = skip(after_spelling(skip(rest, 3)), 5);
+        let place = long_hexadecimal_at(skip(bytes, 7));
+        let bit = bit_place(hexadecimal_at(mask));
+        (set_of(place, bit), after_hexadecimal(mask))
+    } else {
+        let mask = skip(rest, 5);
+        (bit_place(hexadecimal_at(mask)), after_hexadecimal(mask))
+    }
+}
+
+/// A test of a set, at `yybm[`, with so many parentheses behind its mask.
+#[tactic(auto, unfolding(lx_ccode::specs::Reading::set_test_at))]
+fn set_test_at(closing: usize, bytes: &[u8]) -> Read<'_>
+    ensures { (result.0 ≡ fitted_statement (set_test_at closing bytes.now).0) × (result.1 ≡ (set_test_at closing bytes.now).1) × (result.2.now ≡ (set_test_at closing bytes.now).2) }
+{
+    let (set, rest) = set_at(bytes);
+    let next = skip(rest, closing);
+    (Stmt::IfSet(set, goto_block(next)), false, goto_tail(next))
+}
+
+/// A test behind the word before its `<=`.
+#[tactic(auto, unfolding(lx_ccode::specs::Reading::less_at))]
+fn less_at(rest: &[u8]) -> Read<'_>
+    ensures { (result.0 ≡ fitted_statement (less_at rest.now).0) × (result.1 ≡ (less_at rest.now).1) × (result.2.now ≡ (less_at rest.now).2) }
+{
+    let number = skip(rest, 6);
+    let next = after_hexadecimal(number);
+    if byte_at(next, 0) == b' ' {
+        set_test_at(2, skip(next, 5))
+    } else {
+        let jump = skip(next, 1);
+        let test = Stmt::IfUnit(hexadecimal_at(number), goto_block(jump));
+        (test, false, goto_tail(jump))
     }
 }
 

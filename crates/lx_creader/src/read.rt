@@ -1,14 +1,16 @@
 //! Reads the piece that stands at a place.
-ghost use Rattle.std.specs.Prelude.{◌≡◌, ◌++◌, ℕ, List, IsTrue, length, drop, IfOk, MatchResult};
-ghost use Rattle.lx_ccode.specs.Front.{BeginsWithPiece};
+ghost use Rattle.std.specs.Prelude.{◌≡◌, ◌++◌, ◌↔◌, ℕ, List, IsTrue, length, drop, IfOk, MatchResult};
+ghost use Rattle.lx_ccode.specs.Front.{BeginsWithPiece, BeginsWithPieceAt, IsPlaced};
+ghost use Rattle.lx_ccode.specs.Validity.{IsValid};
 ghost use Rattle.lx_creader.specs.Refusals.{IsRefusal};
 
-use crate::reading::reading;
+use crate::reading::{PieceRead, reading};
+use crate::statements::is_line;
 use crate::validity::is_valid;
 use crate::words::skip;
 use lx_base::Memory;
 use lx_ccode::laws::reading_finds_the_piece;
-use lx_ccode::{Piece, begins_with_piece};
+use lx_ccode::{LineMark, Piece, begins_with_piece, is_three};
 use std::alloc::Global;
 use thiserror::Error;
 
@@ -44,8 +46,8 @@ pub fn read_piece(alloc: Global, bytes: &[u8], at: usize) -> Result<Piece, Piece
     let bytes = skip(bytes, at);
     match reading(alloc, bytes)? {
         None => Err(PieceStop::NotEmitted(at)),
-        Some(piece) => {
-            let emitted = is_emitted(alloc, &piece, bytes)?;
+        Some(PieceRead { piece, place }) => {
+            let emitted = is_emitted(alloc, &place, &piece, bytes)?;
             if emitted {
                 Ok(piece)
             } else {
@@ -55,14 +57,27 @@ pub fn read_piece(alloc: Global, bytes: &[u8], at: usize) -> Result<Piece, Piece
     }
 }
 
-/// Whether the piece is valid and its text stands at the front of the bytes.
-fn is_emitted(alloc: Global, piece: &Piece, bytes: &[u8]) -> Result<bool, Memory>
-    ensures emitted { IfOk result (λ emitted. IsTrue emitted → BeginsWithPiece bytes.now piece.now) }
-    ensures refused { IfOk result (λ emitted. BeginsWithPiece bytes.now piece.now → IsTrue emitted) }
+/// Whether the piece has a place just where it needs one, and the place has a spelling.
+fn is_placed(place: &Option<LineMark>, piece: &Piece) -> bool
+    ensures { IsTrue result ↔ IsPlaced place.now piece.now }
+{
+    let line = is_line(place);
+    let stands = is_three(&piece.head) && piece.line.is_some();
+    line && place.is_some() == stands
+}
+
+/// Whether the piece is valid and its text stands at the front of the bytes with this place.
+fn is_emitted(
+    alloc: Global,
+    place: &Option<LineMark>,
+    piece: &Piece,
+    bytes: &[u8],
+) -> Result<bool, Memory>
+    ensures { IfOk result (λ emitted. IsTrue emitted ↔ (IsValid piece.now × IsPlaced place.now piece.now × BeginsWithPieceAt bytes.now place.now piece.now)) }
 {
     let valid = is_valid(alloc, piece)?;
-    if valid {
-        begins_with_piece(alloc, bytes, piece)
+    if valid && is_placed(place, piece) {
+        begins_with_piece(alloc, bytes, place, piece)
     } else {
         Ok(false)
     }

@@ -3,13 +3,13 @@ ghost use Rattle.std.specs.Prelude.{◌≡◌, ◌≤◌, ◌↔◌, ◌||◌, I
 ghost use Rattle.std.specs.List.{AllByRecursion, list_any};
 ghost use Rattle.lx_ccode.specs.Counts.{is_peek};
 ghost use Rattle.lx_ccode.specs.States.{try_first};
-ghost use Rattle.lx_ccode.specs.Statements.{all_statements, has_register_one, is_need, is_state, is_try, statement_count};
+ghost use Rattle.lx_ccode.specs.Statements.{all_statements, has_register_one, is_need, is_of_three, is_state, is_switch, is_try, names_table, statement_count};
 ghost use Rattle.lx_ccode.specs.Validity.{IsLabel, ends_once, last_statements, refill_first, refills_after_states, states_before_refills, tries_after_state};
 ghost use Rattle.lx_creader.specs.ValidParts.{IsValidBlock, IsValidStatement};
 
 use crate::statements::{
-    has_few_groups, has_spelling, is_ending, is_need, is_peek, is_refill, is_state, is_try,
-    jumps_below, names_one_of,
+    has_few_groups, has_spelling, is_ending, is_need, is_of_three, is_peek, is_refill, is_state,
+    is_switch, is_try, jumps_below, names_one_of, names_table,
 };
 use lx_base::Names;
 use lx_base::letters::is_identifier;
@@ -82,7 +82,7 @@ fn is_label(cond: &Option<SharedText>) -> bool
     }
 }
 
-/// Whether the last statement, and no other, is Goto, Leave, Code or Jump.
+/// Whether the last statement, and no other, is Switch, Goto, Leave, Code or Jump.
 fn ends_once(statements: &[Stmt]) -> bool
     ensures { result ≡ ends_once statements.now }
 {
@@ -174,6 +174,10 @@ pub(crate) struct Kinds {
     pub need: bool,
     pub try_refill: bool,
     pub register_one: bool,
+    pub of_three: bool,
+    pub switch: bool,
+    /// Whether a user's tag is called as the table of sets is.
+    pub table_tag: bool,
 }
 
 /// Which sorts of statements stand in the list, or were found before.
@@ -183,6 +187,9 @@ fn kinds_of(before: Kinds, statements: &[Stmt]) -> Kinds
     ensures need { result.need ≡ (before.need || list_any is_need statements.now) }
     ensures try_refill { result.try_refill ≡ (before.try_refill || list_any is_try statements.now) }
     ensures register_one { result.register_one ≡ (before.register_one || list_any has_register_one statements.now) }
+    ensures of_three { result.of_three ≡ (before.of_three || list_any is_of_three statements.now) }
+    ensures switch { result.switch ≡ (before.switch || list_any is_switch statements.now) }
+    ensures table_tag { result.table_tag ≡ (before.table_tag || list_any names_table statements.now) }
 {
     let mut kinds = before;
     for statement in statements {
@@ -191,6 +198,9 @@ fn kinds_of(before: Kinds, statements: &[Stmt]) -> Kinds
         kinds.need |= is_need(statement);
         kinds.try_refill |= is_try(statement);
         kinds.register_one |= has_register_one(statement);
+        kinds.of_three |= is_of_three(statement);
+        kinds.switch |= is_switch(statement);
+        kinds.table_tag |= names_table(statement);
     }
     kinds
 }
@@ -202,6 +212,9 @@ pub(crate) fn kinds_in(blocks: &[CodeBlock]) -> Kinds
     ensures need { result.need ≡ list_any is_need (all_statements blocks.now) }
     ensures try_refill { result.try_refill ≡ list_any is_try (all_statements blocks.now) }
     ensures register_one { result.register_one ≡ list_any has_register_one (all_statements blocks.now) }
+    ensures of_three { result.of_three ≡ list_any is_of_three (all_statements blocks.now) }
+    ensures switch { result.switch ≡ list_any is_switch (all_statements blocks.now) }
+    ensures table_tag { result.table_tag ≡ list_any names_table (all_statements blocks.now) }
 {
     let mut kinds = Kinds {
         peek: false,
@@ -209,6 +222,9 @@ pub(crate) fn kinds_in(blocks: &[CodeBlock]) -> Kinds
         need: false,
         try_refill: false,
         register_one: false,
+        of_three: false,
+        switch: false,
+        table_tag: false,
     };
     for block in blocks {
         kinds = kinds_of(kinds, block.stmts.as_slice());

@@ -1,13 +1,13 @@
 //! Reads what stands before the blocks of a piece.
-ghost use Rattle.std.specs.Prelude.{◌≡◌, map, IfOk};
-ghost use Rattle.lx_ccode.specs.Reading.{cond_cases_at, cond_switch_at, declarations_at, eof_at, is_tab, names_at, state_cases_at, state_switch_at};
-ghost use Rattle.lx_creader.specs.Fitted.{fitted_cond, fitted_eof, fitted_state, fitted_states};
+ghost use Rattle.std.specs.Prelude.{◌≡◌, ◌==◌, drop, map, if◌then◌else◌, IfOk};
+ghost use Rattle.lx_ccode.specs.Reading.{byte_at, cells_at, cond_cases_at, cond_switch_at, declarations_at, eof_at, is_tab, names_at, state_cases_at, state_switch_at, table_at};
+ghost use Rattle.lx_creader.specs.Fitted.{fitted_cond, fitted_eof, fitted_state, fitted_states, tiny};
 
 use crate::lines::Scope;
 use crate::marks::{block_at, goto_block, goto_tail};
 use crate::words::{
-    after_digits, after_identifier, after_spelling, after_type, byte_at, count_at,
-    front_identifier, long_at, short_at, skip, taken,
+    after_digits, after_hexadecimal, after_identifier, after_spelling, after_type, byte_at,
+    byte_hexadecimal_at, count_at, front_identifier, long_at, short_at, skip, taken,
 };
 use lx_base::letters::is_digit;
 use lx_base::{ByteText, Memory, Names, Sequence, names};
@@ -46,10 +46,63 @@ pub(crate) fn eof_at(bytes: &[u8]) -> (Option<u32>, &[u8])
     }
 }
 
-fn is_tab(bytes: &[u8]) -> bool
+pub(crate) fn is_tab(bytes: &[u8]) -> bool
     ensures { result ≡ is_tab bytes.now }
 {
     byte_at(bytes, 0) == b'\t'
+}
+
+/// The bytes of the table, at most as many as the fuel, and what comes behind them.
+#[tactic(auto, unfolding(lx_ccode::specs::Reading::cells_at))]
+fn cells_at(alloc: Global, fuel: usize, bytes: &[u8]) -> Result<(Vec<u8>, &[u8]), Memory>
+    ensures { IfOk result (λ cells. (cells.0.items ≡ map tiny (cells_at fuel bytes.now).0) × (cells.1.now ≡ (cells_at fuel bytes.now).1)) }
+{
+    let mut cells = Vec::new(alloc);
+    let mut left = fuel;
+    let mut bytes = bytes;
+    while left > 0 && byte_at(bytes, 1) != b'}' {
+        left -= 1;
+        let number = skip(behind_tab(bytes), 2);
+        cells.push(byte_hexadecimal_at(number))?;
+        bytes = behind_feed(skip(after_hexadecimal(number), 1));
+    }
+    Ok((cells, bytes))
+}
+
+/// What comes behind a tab, where one stands.
+fn behind_tab(bytes: &[u8]) -> &[u8]
+    ensures { result.now ≡ (if is_tab bytes.now then drop 1 bytes.now else bytes.now) }
+{
+    if is_tab(bytes) { skip(bytes, 1) } else { bytes }
+}
+
+/// What comes behind a line feed, where one stands.
+fn behind_feed(bytes: &[u8]) -> &[u8]
+    ensures { result.now ≡ (if byte_at bytes.now 0 == 10 then drop 1 bytes.now else bytes.now) }
+{
+    if byte_at(bytes, 0) == b'\n' {
+        skip(bytes, 1)
+    } else {
+        bytes
+    }
+}
+
+/// The table of sets, where it stands, and what comes behind it.
+#[tactic(auto, unfolding(lx_ccode::specs::Reading::table_at))]
+pub(crate) fn table_at(
+    alloc: Global,
+    fuel: usize,
+    bytes: &[u8],
+) -> Result<(Sequence<u8>, &[u8]), Memory>
+    ensures { IfOk result (λ table. (table.0 ≡ map tiny (table_at fuel bytes.now).0) × (table.1.now ≡ (table_at fuel bytes.now).1)) }
+{
+    let rest = after_type(skip(bytes, 1));
+    if !(is_tab(bytes) && byte_at(rest, 0) == b'[') {
+        return Ok((Sequence::new(alloc), bytes));
+    }
+    let start = skip(after_digits(skip(rest, 1)), 6);
+    let (cells, rest) = cells_at(alloc, fuel, start)?;
+    Ok((Sequence::from_vec(cells), skip(rest, 4)))
 }
 
 /// Whether the declarations stand here, and what comes behind them.

@@ -1,12 +1,13 @@
 //! Decides which statements a valid piece may have.
 ghost use Rattle.std.specs.Prelude.{◌≡◌, ◌↔◌, IsTrue};
 ghost use Rattle.lx_ccode.specs.Counts.{is_peek};
-ghost use Rattle.lx_ccode.specs.Statements.{is_ending, is_need, is_refill, is_state, is_try};
+ghost use Rattle.lx_ccode.specs.Statements.{is_ending, is_need, is_of_three, is_refill, is_state, is_switch, is_try, names_table};
 ghost use Rattle.lx_ccode.specs.Validity.{HasFewGroups, HasSpelling, IsLine, IsLong, IsRegister, IsShort, JumpsBelow, NamesOneOf};
 
+use crate::cases::{are_switch_cases, lead_below};
 use lx_base::Names;
 use lx_base::letters::is_identifier;
-use lx_base::names::is_tag_name;
+use lx_base::names::{begins_table, is_tag_name};
 use lx_ccode::{LineMark, NameSet, Stmt};
 
 /// Whether the number has at most 32 bits, as each has that a piece can hold.
@@ -57,12 +58,14 @@ pub(crate) fn has_spelling(names: &Names, statement: &Stmt) -> bool
         }
         Stmt::Copy(register, source) => is_register(*register) && is_register(*source),
         Stmt::MCopy(history, source) => is_short(*history) && is_short(*source),
-        Stmt::IfUnit(number, block) | Stmt::IfAccept(number, block) => {
-            is_short(*number) && is_long(*block)
-        }
+        Stmt::IfUnit(number, block)
+        | Stmt::IfIs(number, block)
+        | Stmt::IfSet(number, block)
+        | Stmt::IfAccept(number, block) => { is_short(*number) && is_long(*block) }
         Stmt::IfEnd(number) | Stmt::State(number) | Stmt::Try(number) | Stmt::Goto(number) => {
             is_long(*number)
         }
+        Stmt::Switch(cases, last) => are_switch_cases(cases.as_slice()) && is_long(*last),
         Stmt::Cond(cond) => is_identifier(cond.as_slice()),
         Stmt::Tag(tag, true, history) => is_tag_name(names, tag.as_slice()) && is_short(*history),
         Stmt::Tag(tag, false, register) => {
@@ -81,7 +84,12 @@ pub(crate) fn jumps_below(blocks: usize, statement: &Stmt) -> bool
     ensures { IsTrue result ↔ JumpsBelow blocks statement.now }
 {
     match statement {
+        Stmt::Switch(cases, last) => {
+            lead_below(blocks, cases.as_slice()) && *last < blocks as u64
+        }
         Stmt::IfUnit(_, block)
+        | Stmt::IfIs(_, block)
+        | Stmt::IfSet(_, block)
         | Stmt::IfAccept(_, block)
         | Stmt::IfEnd(block)
         | Stmt::Try(block)
@@ -117,8 +125,35 @@ pub(crate) fn is_ending(statement: &Stmt) -> bool
 {
     matches!(
         statement,
-        Stmt::Goto(_) | Stmt::Leave | Stmt::Code(_, _, _) | Stmt::Jump(_, _)
+        Stmt::Switch(_, _) | Stmt::Goto(_) | Stmt::Leave | Stmt::Code(_, _, _) | Stmt::Jump(_, _)
     )
+}
+
+/// Whether the statement is of format 3.
+pub(crate) fn is_of_three(statement: &Stmt) -> bool
+    ensures { result ≡ is_of_three statement.now }
+{
+    matches!(
+        statement,
+        Stmt::IfIs(_, _) | Stmt::IfSet(_, _) | Stmt::Switch(_, _)
+    )
+}
+
+/// Whether the statement is a Switch.
+pub(crate) fn is_switch(statement: &Stmt) -> bool
+    ensures { result ≡ is_switch statement.now }
+{
+    matches!(statement, Stmt::Switch(_, _))
+}
+
+/// Whether the statement gives a value to a user's tag that is called as the table of sets is.
+pub(crate) fn names_table(statement: &Stmt) -> bool
+    ensures { result ≡ names_table statement.now }
+{
+    match statement {
+        Stmt::Tag(tag, _, _) => begins_table(tag.as_slice()),
+        _ => false,
+    }
 }
 
 /// Whether the statement stores a state.

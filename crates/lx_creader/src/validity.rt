@@ -5,18 +5,21 @@ ghost use Rattle.lx_base.specs.Names.{name_primitives};
 ghost use Rattle.lx_ccode.specs.Agreement.{Agrees, keeps_mode};
 ghost use Rattle.lx_ccode.specs.Counts.{state_count};
 ghost use Rattle.lx_ccode.specs.Heads.{is_custom};
+ghost use Rattle.lx_ccode.specs.Labels.{block_front};
 ghost use Rattle.lx_ccode.specs.Validity.{IsLong, IsShort, IsValid};
-ghost use Rattle.lx_creader.specs.ValidParts.{HasUnit, KeepsBlockRules, KeepsHeadRules, KeepsKindRules};
+ghost use Rattle.lx_creader.specs.ValidParts.{HasUnit, KeepsBlockRules, KeepsFormatRules, KeepsHeadRules, KeepsKindRules};
 
+use crate::cases::are_bytes;
 use crate::conds::{distinct_conds, keep_cond_rules};
+use crate::labels::any_is_like_block;
 use crate::rules::{Kinds, Rules, blocks_store_states, kinds_in, last_tries_after_state};
 use crate::statements::{is_line, is_long, is_short};
 use crate::states::keep_state_rules;
-use lx_base::names::{are_allowed, do_not_clash, name_primitives};
+use lx_base::names::{are_allowed, do_not_clash, name_primitives, name_table};
 use lx_base::{Memory, Names, Sequence};
 use lx_ccode::{
-    CodeBlock, Head, Mode, NameSet, Piece, StateCase, count_statements, is_custom, mregs_of,
-    regs_of,
+    CodeBlock, Head, Mode, NameSet, Piece, StateCase, block_front, count_statements, is_custom,
+    is_three, mregs_of, regs_of, table_size,
 };
 use lx_encode::unit_bytes;
 use std::alloc::Global;
@@ -86,7 +89,8 @@ fn keeps_head_rules(piece: &Piece) -> bool
     let names_differ = do_not_clash(&piece.names);
     let no_primitive = names_no_primitive(&piece.head, &piece.names);
     let head = has_numbers(&piece.head);
-    number && line && states && unit && names && names_differ && no_primitive && head
+    let table = are_bytes(piece.table.as_slice());
+    number && line && states && unit && names && names_differ && no_primitive && head && table
 }
 
 fn keeps_mode(mode: Mode, has_eof: bool, kinds: Kinds) -> bool
@@ -154,6 +158,23 @@ fn keep_kind_rules(ctx: bool, blocks: &[CodeBlock]) -> bool
     one_refill && before_refills && next_block && context
 }
 
+/// Whether the piece keeps the rules of formats, where the labels of its blocks begin with the front.
+fn keeps_format_rules(piece: &Piece, front: &[u8]) -> bool
+    requires { front.now ≡ block_front piece.now.number }
+    ensures { IsTrue result ↔ KeepsFormatRules piece.now }
+{
+    let blocks = piece.blocks.as_slice();
+    let kinds = kinds_in(blocks);
+    let three = is_three(&piece.head);
+    let of_three = !kinds.of_three || three;
+    let switches = !kinds.switch || piece.unit == 1;
+    let table = piece.table.as_slice().len() as u64 == table_size(blocks);
+    let names = !three || !name_table(&piece.names);
+    let tags = !three || !kinds.table_tag;
+    let labels = !three || !any_is_like_block(front, &piece.names, blocks);
+    of_three && switches && table && names && tags && labels
+}
+
 /// Whether the piece is valid.
 pub(crate) fn is_valid(alloc: Global, piece: &Piece) -> Result<bool, Memory>
     ensures { IfOk result (λ valid. IsTrue valid ↔ IsValid piece.now) }
@@ -172,11 +193,13 @@ pub(crate) fn is_valid(alloc: Global, piece: &Piece) -> Result<bool, Memory>
     let valid = keep_block_rules(&piece.names, &names, blocks);
     let kinds = keep_kind_rules(piece.ctx, blocks);
     let agree = agrees_if_some(piece, states);
-    Ok(keep_all(head, named, valid, kinds, agree))
+    let front = block_front(alloc, piece.number)?;
+    let formats = keeps_format_rules(piece, front.as_slice());
+    Ok(keep_all(head, named, valid, kinds, agree, formats))
 }
 
-fn keep_all(head: bool, named: bool, valid: bool, kinds: bool, agree: bool) -> bool
-    ensures { IsTrue result ↔ (IsTrue head × IsTrue named × IsTrue valid × IsTrue kinds × IsTrue agree) }
+fn keep_all(head: bool, named: bool, valid: bool, kinds: bool, agree: bool, formats: bool) -> bool
+    ensures { IsTrue result ↔ (IsTrue head × IsTrue named × IsTrue valid × IsTrue kinds × IsTrue agree × IsTrue formats) }
 {
-    head && named && valid && kinds && agree
+    head && named && valid && kinds && agree && formats
 }

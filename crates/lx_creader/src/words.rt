@@ -110,7 +110,8 @@ pub(crate) fn long_of(word: &[u8]) -> u64
     value_of(word, 10)
 }
 
-fn shortened(number: u64) -> u32
+/// The number, or the greatest one of its type.
+pub(crate) fn shortened(number: u64) -> u32
     ensures { result ≡ min number 4294967295 }
 {
     number.min(4_294_967_295) as u32
@@ -142,6 +143,20 @@ pub(crate) fn hexadecimal_at(bytes: &[u8]) -> u32
     ensures { result ≡ min (hexadecimal_at bytes.now) 4294967295 }
 {
     shortened(value_of(front_hexadecimal(bytes), 16))
+}
+
+/// The hexadecimal number at the front; the greatest number where it has no room.
+pub(crate) fn long_hexadecimal_at(bytes: &[u8]) -> u64
+    ensures { result ≡ min (hexadecimal_at bytes.now) 18446744073709551615 }
+{
+    value_of(front_hexadecimal(bytes), 16)
+}
+
+/// The hexadecimal number at the front; the greatest number where it has no room.
+pub(crate) fn byte_hexadecimal_at(bytes: &[u8]) -> u8
+    ensures { result ≡ min (hexadecimal_at bytes.now) 255 }
+{
+    long_hexadecimal_at(bytes).min(255) as u8
 }
 
 /// The number at the front, or the count of the bytes where it is greater.

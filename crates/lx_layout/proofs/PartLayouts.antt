@@ -24,4 +24,5 @@ pub mod PeekedLayouts
 pub mod LastBlocks
 pub mod AskingParts
 pub mod ShortNumbers
+pub mod OfFormatTwo
 pub mod ValidParts

@@ -6,7 +6,8 @@ use Rattle.lx_auto.specs.declared.automaton.Auto.{Auto}
 use Rattle.lx_auto.specs.declared.automaton.State as automaton
 use Rattle.lx_ccode.specs.declared.piece.CodeBlock.{CodeBlock}
 use Rattle.lx_ccode.specs.declared.piece.Stmt.{Stmt}
-use Rattle.lx_ccode.specs.declared.piece.Stmt.TheVariants.{Goto, IfAccept, IfEnd, IfUnit, State, Try}
+use Rattle.lx_ccode.specs.declared.piece.Stmt.TheVariants.{Goto, IfAccept, IfEnd, IfIs, IfSet, IfUnit, State, Switch, Try}
+use Rattle.lx_ccode.specs.declared.piece.SwitchCase.{SwitchCase}
 use Rattle.lx_layout.specs.Halting.{Halting, ended_accepts, saved_accepts}
 use Rattle.lx_layout.specs.Endings.{Ending}
 use Rattle.lx_layout.specs.LaidParts.{ArePartEnds, EndIsTold, ended_at, halting_at, seen_demand, seen_given, supply_at, trees_at}
@@ -36,13 +37,20 @@ abbrev pub back_layout : Halting → (endings : ℕ → Ending) → (end_rule : 
 back_layout halting endings end_rule auto =
     ending_blocks endings (ended_accepts halting auto.states) ++ end_rule_part endings end_rule
 
--- the statement, where the block that it names stands so many places further on, and the number of a stored state is greater by so much
+-- a case of a switch over units, where its block stands so many places further on
+abbrev pub moved_case : (by : ℕ) → SwitchCase → SwitchCase
+moved_case by case = record case { block = case.block + by }
+
+-- the statement, where the blocks that it names stand so many places further on, and the number of a stored state is greater by so much
 abbrev pub moved : (by stored : ℕ) → Stmt → Stmt
 moved by stored (IfUnit greatest block) = IfUnit greatest (block + by)
+moved by stored (IfIs unit block) = IfIs unit (block + by)
+moved by stored (IfSet set block) = IfSet set (block + by)
 moved by stored (IfAccept accept block) = IfAccept accept (block + by)
 moved by stored (IfEnd block) = IfEnd (block + by)
 moved by stored (State state) = State (state + stored)
 moved by stored (Try block) = Try (block + by)
+moved by stored (Switch cases last) = Switch (map (moved_case by) cases) (last + by)
 moved by stored (Goto block) = Goto (block + by)
 moved by stored statement = statement
 

@@ -151,6 +151,7 @@ bytes_piece names codes = record {
   eof = None;
   declares = true;
   ctx = false;
+  table = [];
   states = None;
   conds = [];
   blocks = map (λ code. record { cond = None; stmts = code }) codes;

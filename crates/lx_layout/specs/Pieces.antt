@@ -9,6 +9,7 @@ use Rattle.lx_auto.specs.declared.automaton.State.{State}
 use Rattle.lx_base.specs.Names.{AreAllowed, DoNotClash, Spellings, name_primitives}
 use Rattle.lx_base.specs.Spelling.{greatest_unit}
 use Rattle.lx_base.specs.declared.settings.Enc.{Enc}
+use Rattle.lx_base.specs.declared.settings.Format.TheVariants.{Two}
 use Rattle.lx_ccode.specs.Counts.{mregs_of, regs_of, state_count}
 use Rattle.lx_ccode.specs.Runs.{entry_block}
 use Rattle.lx_ccode.specs.States.{states_from}
@@ -193,6 +194,7 @@ pub record IsScannerIn (mode : Mode) (enc : Enc) (given : Given) (checks : List 
 
 abbrev pub head_of : Form → List CodeBlock → Head
 head_of form blocks = record {
+  format = Two;
   custom = form.custom;
   enc = form.enc;
   mode = mode_of form.eof form.fill;
@@ -201,8 +203,8 @@ head_of form blocks = record {
   states = state_count blocks;
 }
 
--- The fields beside the blocks. It declares its variables itself where it stores no state; register 1 is spelled as the context marker only
--- where a statement has it.
+-- The fields beside the blocks. It declares its variables itself where it stores no state, and has no table of sets; register 1 is spelled as
+-- the context marker only where a statement has it.
 pub record HasFields (form : Form) (conds : List (List ℕ)) (piece : Piece) : Type 0 where
   pub number : piece.number ≡ form.number
   pub head : piece.head ≡ Some (head_of form piece.blocks)
@@ -210,6 +212,7 @@ pub record HasFields (form : Form) (conds : List (List ℕ)) (piece : Piece) : T
   pub unit : piece.unit ≡ unit_size form.enc
   pub eof : piece.eof ≡ form.eof
   pub declares : piece.declares ≡ (if form.stores then false else true)
+  pub table : piece.table ≡ []
   pub ctx : piece.ctx ≡ form.context && list_any has_register_one (all_statements piece.blocks)
   pub switches : is_some piece.states ≡ form.switches
   pub conds_are : map (λ case. case.cond) piece.conds ≡ conds

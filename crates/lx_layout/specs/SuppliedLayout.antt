@@ -1,12 +1,14 @@
 -- The blocks of an automaton whose scanner gets its units in some way: with tests of the end, checks for units, and refills.
 use Rattle.std.specs.Prelude.{ℕ, zero, suc, ◌+◌, ◌<◌, ◌≤◌, Bool, true, false, List, [], ◌∷◌, ◌++◌, length, Option, Some, None, if◌then◌else◌}
+use Rattle.std.specs.List.{AllByRecursion}
 use Rattle.lx_auto.specs.Automaton.{edge_on, state_of}
 use Rattle.lx_auto.specs.declared.automaton.Accept.{Accept}
 use Rattle.lx_auto.specs.declared.automaton.Auto.{Auto}
 use Rattle.lx_auto.specs.declared.automaton.Edge.{Edge}
 use Rattle.lx_auto.specs.declared.automaton.State.{State}
 use Rattle.lx_ccode.specs.declared.piece.Stmt.{Stmt}
-use Rattle.lx_ccode.specs.declared.piece.Stmt.TheVariants.{Goto, IfAccept, IfEnd, IfUnit, Peek, Try}
+use Rattle.lx_ccode.specs.declared.piece.Stmt.TheVariants.{Goto, Peek}
+use Rattle.lx_ccode.specs.Statements.{targets}
 use Rattle.lx_layout.specs.Fallback.{edge_code, fallback_code}
 use Rattle.lx_layout.specs.Endings.{Ending, ending_code}
 use Rattle.lx_layout.specs.Layout.{choices_from, class_block, end_block, end_blocks, end_size, ending_blocks, lone_blocks, lone_place, lone_size, restore_blocks, rule_place, saved_number}
@@ -278,12 +280,7 @@ supplied_layout supply halting endings end_rule trees auto begin =
 
 -- where the statement jumps, it jumps to a block of some sort
 abbrev pub JumpsTo : (B : ℕ → Type 0) → Stmt → Type 0
-JumpsTo B (IfUnit greatest block) = B block
-JumpsTo B (IfAccept accept block) = B block
-JumpsTo B (IfEnd block) = B block
-JumpsTo B (Try block) = B block
-JumpsTo B (Goto block) = B block
-JumpsTo B _ = Unit {0}
+JumpsTo B statement = AllByRecursion B (targets statement)
 
 -- where it jumps, it jumps to a block from one on that comes before another one
 abbrev pub JumpsWithin : (low high : ℕ) → Stmt → Type 0

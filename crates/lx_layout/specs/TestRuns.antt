@@ -2,13 +2,16 @@
 use Rattle.std.specs.Prelude.{◌≡◌, ℕ, ◌≤◌, Bool, true, false, List, Some}
 use Rattle.lx_ccode.specs.declared.piece.Piece.{Piece}
 use Rattle.lx_ccode.specs.declared.piece.Stmt.{Stmt}
-use Rattle.lx_ccode.specs.declared.piece.Stmt.TheVariants.{IfUnit}
+use Rattle.lx_ccode.specs.declared.piece.Stmt.TheVariants.{IfIs, IfSet, IfUnit, Switch}
 use Rattle.lx_ccode.specs.Machine.{Answer, Machine, goes_on}
 use Rattle.lx_ccode.specs.Traces.{count_made, trace}
 
 -- the statement tests a unit
 abbrev pub is_test : Stmt → Bool
 is_test (IfUnit greatest block) = true
+is_test (IfIs unit block) = true
+is_test (IfSet set block) = true
+is_test (Switch cases last) = true
 is_test _ = false
 
 -- From its code on the machine reads this unit and comes to other code, and changes nothing else. It tests a unit at most so often before.

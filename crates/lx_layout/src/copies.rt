@@ -5,7 +5,7 @@ ghost use Rattle.std.specs.List.{AllByRecursion};
 ghost use Rattle.lx_auto.specs.Automaton.{AreHeld, IsAuto};
 ghost use Rattle.lx_auto.specs.declared.automaton.State.{State};
 ghost use Rattle.lx_ccode.specs.declared.piece.Stmt.{Stmt};
-ghost use Rattle.lx_layout.specs.Copies.{AcceptIsToldBy, codes_in, IsFront, IsLikeFront, IsToldBy, copied_codes, given_by, moved, moved_codes};
+ghost use Rattle.lx_layout.specs.Copies.{AcceptIsToldBy, codes_in, IsFront, IsLikeFront, IsToldBy, copied_codes, given_by, moved, moved_case, moved_codes};
 ghost use Rattle.lx_layout.specs.LaidParts.{ended_at, seen_given};
 ghost use Rattle.lx_layout.specs.Layout.{ending_blocks};
 ghost use Rattle.lx_layout.specs.Parts.{IsPartOf, Part, given_asked, part_blocks};
@@ -20,8 +20,8 @@ use crate::parts::{append_end_rule, append_front, input_places, label};
 use crate::rule_endings::{ending_code, shared_line};
 use crate::rule_ends::{EndIndex, index_of};
 use lx_auto::Accept;
-use lx_base::Memory;
-use lx_ccode::{CodeBlock, Stmt};
+use lx_base::{Memory, Sequence};
+use lx_ccode::{CodeBlock, Stmt, SwitchCase};
 use std::alloc::Global;
 
 /// The blocks of a scanner without the ends of its rules, of which the first one has the number 0; what reads is stored by
@@ -59,8 +59,29 @@ pub(crate) fn front_of<'a>(alloc: Global, input: &PartInput<'a>) -> Result<Front
     })
 }
 
-/// The statement, where the block that it names stands so many places further on, and the number of a stored state is greater by so much.
-fn moved(statement: &Stmt, by: u64, stored: u64) -> Result<Stmt, Memory>
+/// The case of a switch over units, where its block stands so many places further on.
+fn moved_case(alloc: Global, case: &SwitchCase, by: u64) -> Result<SwitchCase, Memory>
+    ensures { IfOk result (λ copy. copy ≡ moved_case by case.now) }
+{
+    Ok(SwitchCase {
+        units: Sequence::copy_of(alloc, case.units.as_slice())?,
+        block: sum(case.block, by)?,
+    })
+}
+
+/// The same of cases.
+fn moved_cases(alloc: Global, cases: &[SwitchCase], by: u64) -> Result<Sequence<SwitchCase>, Memory>
+    ensures { IfOk result (λ copy. copy ≡ map (moved_case by) cases.now) }
+{
+    let mut copy = Vec::with_capacity(alloc, cases.len())?;
+    for case in cases {
+        copy.push(moved_case(alloc, case, by)?)?;
+    }
+    Ok(Sequence::from_vec(copy))
+}
+
+/// The statement, where the blocks that it names stand so many places further on, and the number of a stored state is greater by so much.
+fn moved(alloc: Global, statement: &Stmt, by: u64, stored: u64) -> Result<Stmt, Memory>
     ensures { IfOk result (λ copy. copy ≡ moved by stored statement.now) }
 {
     Ok(match statement {
@@ -76,6 +97,8 @@ fn moved(statement: &Stmt, by: u64, stored: u64) -> Result<Stmt, Memory>
         Stmt::MUnset(history) => Stmt::MUnset(*history),
         Stmt::MCopy(history, source) => Stmt::MCopy(*history, *source),
         Stmt::IfUnit(greatest, block) => Stmt::IfUnit(*greatest, sum(*block, by)?),
+        Stmt::IfIs(unit, block) => Stmt::IfIs(*unit, sum(*block, by)?),
+        Stmt::IfSet(set, block) => Stmt::IfSet(*set, sum(*block, by)?),
         Stmt::IfAccept(accept, block) => Stmt::IfAccept(*accept, sum(*block, by)?),
         Stmt::IfEnd(block) => Stmt::IfEnd(sum(*block, by)?),
         Stmt::State(state) => Stmt::State(sum(*state, stored)?),
@@ -86,6 +109,9 @@ fn moved(statement: &Stmt, by: u64, stored: u64) -> Result<Stmt, Memory>
         Stmt::Count(groups) => Stmt::Count(*groups),
         Stmt::End(place, register) => Stmt::End(*place, *register),
         Stmt::Back(register) => Stmt::Back(*register),
+        Stmt::Switch(cases, last) => {
+            Stmt::Switch(moved_cases(alloc, cases.as_slice(), by)?, sum(*last, by)?)
+        }
         Stmt::Goto(block) => Stmt::Goto(sum(*block, by)?),
         Stmt::Leave => Stmt::Leave,
         Stmt::Code(rule, line, code) => Stmt::Code(*rule, shared_line(line)?, code.share()?),
@@ -99,7 +125,7 @@ fn moved_code(alloc: Global, code: &[Stmt], by: u64, stored: u64) -> Result<Vec<
 {
     let mut copy = Vec::with_capacity(alloc, code.len())?;
     for statement in code {
-        copy.push(moved(statement, by, stored)?)?;
+        copy.push(moved(alloc, statement, by, stored)?)?;
     }
     Ok(copy)
 }

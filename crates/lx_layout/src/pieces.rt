@@ -24,7 +24,7 @@ use crate::parts::append_part;
 use crate::rule_ends::RuleEnd;
 use crate::switches::{cond_cases, names_register_one, state_cases};
 use lx_auto::Auto;
-use lx_base::{Enc, Memory, Names, Sequence};
+use lx_base::{Enc, Format, Memory, Names, Sequence};
 use lx_ccode::{
     CodeBlock, Head, LineMark, Mode, Piece, StateCase, count_statements, mregs_of, regs_of,
 };
@@ -212,6 +212,7 @@ fn head_of(form: &PieceForm, blocks: &[CodeBlock], states: u64) -> Head
 {
     let mregs = mregs_of(blocks);
     Head {
+        format: Format::Two,
         custom: form.custom,
         enc: form.enc,
         mode: mode_of(form.eof, form.fill),
@@ -276,6 +277,7 @@ pub(crate) fn piece_with(
         eof: form.eof,
         declares: !form.stores,
         ctx,
+        table: Sequence::new(alloc),
         states,
         conds: Sequence::from_vec(conds),
         blocks: Sequence::from_vec(blocks),

@@ -8,9 +8,9 @@ use Rattle.std.proofs.Math.Nat.{mul-le-mul_right}
 use Rattle.lx_ccode.specs.declared.piece.CodeBlock.{CodeBlock}
 use Rattle.lx_ccode.specs.declared.piece.Piece.{Piece}
 use Rattle.lx_ccode.specs.declared.piece.Stmt.{Stmt}
-use Rattle.lx_ccode.specs.declared.piece.Stmt.TheVariants.{Peek, Skip, MSet, MUnset, MCopy, IfUnit, IfAccept, IfEnd, State, Need, Try, Tag, Back, Goto, Leave, Code, Jump}
+use Rattle.lx_ccode.specs.declared.piece.Stmt.TheVariants.{Peek, Skip, MSet, MUnset, MCopy, IfUnit, IfIs, IfSet, IfAccept, IfEnd, State, Need, Try, Tag, Back, Switch, Goto, Leave, Code, Jump}
 use Rattle.lx_ccode.specs.Effects.{machine_after}
-use Rattle.lx_ccode.specs.Machine.{Answer, Machine, Next, Outcome, Refill, at_end, back, by_jump, by_rule, choose, code_at, ends, goes_on, has_units, if_unit, jump, left, looped, more, need, no_more, no_rule, peek, refilled, skip, step, stored_block, stuck, unanswered, units_of, units_of_all, write_history}
+use Rattle.lx_ccode.specs.Machine.{Answer, Machine, Next, Outcome, Refill, at_end, back, by_jump, by_rule, case_block, choose, code_at, ends, goes_on, has_units, if_unit, switch_unit, jump, left, looped, more, need, no_more, no_rule, peek, refilled, skip, step, stored_block, stuck, unanswered, units_of, units_of_all, write_history}
 use Rattle.lx_ccode.specs.Runs.{Ended, IsRun, ended, entry_block, fresh_machine, last_step, loop_count, no_code, run_of}
 use Rattle.lx_ccode.specs.Schedules.{AreLegalAnswers, Buffer, Schedule}
 use Rattle.lx_ccode.specs.States.{stores}
@@ -63,9 +63,13 @@ module _ (blocks : List CodeBlock) (rest : List Stmt) where
   clean-skip true machine = (refl, inl refl)
   clean-skip false machine = λ e. absurd cc
 
-  clean-if_unit : (unit : Option ℕ) (greatest block : ℕ) (machine : Machine) → Clean (if_unit unit greatest (code_at blocks (Some block)) rest machine [])
-  clean-if_unit None greatest block machine = λ e. absurd cc
-  clean-if_unit (Some unit) greatest block machine = clean-choose (nat_le unit greatest) block machine
+  clean-if_unit : (unit : Option ℕ) (test : ℕ → Bool) (block : ℕ) (machine : Machine) → Clean (if_unit unit test (code_at blocks (Some block)) rest machine [])
+  clean-if_unit None test block machine = λ e. absurd cc
+  clean-if_unit (Some unit) test block machine = clean-choose (test unit) block machine
+
+  clean-switch_unit : (unit : Option ℕ) (block : ℕ → ℕ) (machine : Machine) → Clean (switch_unit unit (λ unit. code_at blocks (Some (block unit))) machine [])
+  clean-switch_unit None block machine = λ e. absurd cc
+  clean-switch_unit (Some unit) block machine = clean-jump (block unit) machine
 
   clean-write_history : (history : ℕ) (content : List (Option ℕ)) (machine : Machine) → Clean (write_history history content rest machine [])
   clean-write_history zero content machine = λ e. absurd cc
@@ -82,7 +86,9 @@ clean-step piece stream rest machine Skip quiet = clean-skip piece.blocks rest _
 clean-step piece stream rest machine (MSet history) quiet = clean-write_history piece.blocks rest history _ machine
 clean-step piece stream rest machine (MUnset history) quiet = clean-write_history piece.blocks rest history _ machine
 clean-step piece stream rest machine (MCopy history source) quiet = clean-write_history piece.blocks rest history _ machine
-clean-step piece stream rest machine (IfUnit greatest block) quiet = clean-if_unit piece.blocks rest machine.unit greatest block machine
+clean-step piece stream rest machine (IfUnit greatest block) quiet = clean-if_unit piece.blocks rest machine.unit _ block machine
+clean-step piece stream rest machine (IfIs unit block) quiet = clean-if_unit piece.blocks rest machine.unit _ block machine
+clean-step piece stream rest machine (IfSet set block) quiet = clean-if_unit piece.blocks rest machine.unit _ block machine
 clean-step piece stream rest machine (IfAccept accept block) quiet = clean-choose piece.blocks rest _ block machine
 clean-step piece stream rest machine (IfEnd block) quiet = clean-choose piece.blocks rest _ block machine
 clean-step piece stream rest machine (Need units) quiet = absurd (false≢true (sym quiet))
@@ -90,6 +96,7 @@ clean-step piece stream rest machine (Try block) quiet = absurd (false≢true (s
 clean-step piece stream rest machine (Tag tag true history) quiet = (refl, inl refl)
 clean-step piece stream rest machine (Tag tag false register) quiet = (refl, inl refl)
 clean-step piece stream rest machine (Back register) quiet = clean-back piece.blocks rest _ machine
+clean-step piece stream rest machine (Switch cases last) quiet = clean-switch_unit piece.blocks rest machine.unit (case_block cases last) machine
 clean-step piece stream rest machine (Goto block) quiet = clean-jump piece.blocks rest block machine
 clean-step piece stream rest machine Leave quiet = λ e. absurd cc
 clean-step piece stream rest machine (Code rule line action) quiet = λ e. absurd cc
@@ -268,7 +275,7 @@ module _ (piece : Piece) (valid : IsValid piece) (reading : Reading) (start : �
         → Clean piece.blocks rest next → (limit' : ℕ) (closed' : Bool) → HasLimit next limit' → After limit' closed' → MayCome used limit' closed' → IsEnd (on_from piece reading start going stand statement used next).told
         → Runs stand closed (on_from piece reading start going stand statement used next)
     Runs-step statement rest code used (goes_on onward last answers) is clean limit' closed' limit_is after may_come end =
-        let here : Stand = record stand { point = point_after stand.point statement used onward last } in
+        let here : Stand = record stand { point = point_after piece.table stand.point statement used onward last } in
         let may_here : May here closed' = record {
           keeps = Keeps-step piece valid reading.stream statement rest machine used (goes_on onward last answers) is (subst (λ code. Keeps piece valid code machine.state) code may.keeps) clean;
           within = let within = after.within in omega (arith, within, limit_is);

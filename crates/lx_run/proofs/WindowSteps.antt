@@ -211,7 +211,7 @@ module _ (piece : Piece) (reading : Reading) (start : ℕ) (leaving : Bool) wher
   HasRoom-any (answer ∷ answers) statement machine room = room
 
   -- a Need goes to no other block
-  goes_to-need : (units : ℕ) (used : List Answer) (machine : Machine) → goes_to used (Need units) machine ≡ None
+  goes_to-need : (units : ℕ) (used : List Answer) (machine : Machine) → goes_to piece.table used (Need units) machine ≡ None
   goes_to-need units [] machine = refl
   goes_to-need units (refilled (more dropped added) ∷ used) machine = refl
   goes_to-need units (refilled no_more ∷ used) machine = refl
@@ -223,7 +223,7 @@ module _ (piece : Piece) (reading : Reading) (start : ℕ) (leaving : Bool) wher
       → on_from piece reading start going (stand_at (limited limit point) values)
       (Need units) used next ≡ on_from piece reading start going (stand_at point values) (Need units) others next
   on_from-need going point values units limit used others (goes_on code machine answers) =
-      let same : goes_to used (Need units) (limited limit point).machine ≡ goes_to others (Need units) point.machine =
+      let same : goes_to piece.table used (Need units) (limited limit point).machine ≡ goes_to piece.table others (Need units) point.machine =
       goes_to-need units used (limited limit point).machine ∙ sym (goes_to-need units others point.machine) in
       ap (λ target. going (stand_at (record {
         place = place_after point.place target;
@@ -422,7 +422,7 @@ module _ (piece : Piece) (reading : Reading) (start : ℕ) (leaving : Bool) wher
       → Comes from point limit → limit ≤ length reading.stream
       → Makes piece reading.stream start reading.size point statement rest used (goes_on code machine [])
       → AreGiven reading start leaving limit used limit'
-      → Comes from (point_after point statement used code machine) limit'
+      → Comes from (point_after piece.table point statement used code machine) limit'
   Comes-makes from point statement rest code machine used limit limit' comes within made given =
       let takes : Takes point statement used (goes_on code machine []) limit' =
       Takes-made point statement rest used (goes_on code machine []) limit' made (rw comes.limit_is within) (rw comes.limit_is given) tt in

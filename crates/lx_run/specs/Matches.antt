@@ -70,7 +70,7 @@ module _ (piece : Piece) (reading : Reading) (start : ℕ) where
   Going = Stand → MatchEnd
 
   abbrev pub on_from : Going → Stand → Stmt → (used : List Answer) → Next → MatchEnd
-  on_from going stand statement used (goes_on code last answers) = going (record stand { point = point_after stand.point statement used code last })
+  on_from going stand statement used (goes_on code last answers) = going (record stand { point = point_after piece.table stand.point statement used code last })
   on_from going stand statement used (ends outcome last) = ended (told_by outcome) stand last
 
   -- a statement is made, with these answers

@@ -1,6 +1,8 @@
 -- Of one block with scanners, and a text behind it, one piece with a scanner is made.
-use Rattle.std.proofs.Common.{◌≡◌, ℕ, Bool, List, [], ◌∷◌, refl}
+use Rattle.std.proofs.Common.{◌≡◌, ℕ, Bool, false, List, [], ◌∷◌, None, ap, refl}
 use Rattle.lx_base.specs.declared.places.Pos.{Pos}
+use Rattle.lx_ccode.specs.Front.{IsPlaced}
+use Rattle.lx_ccode.specs.Heads.{is_three}
 use Rattle.lx_ccode.specs.Validity.{IsValid}
 use Rattle.lx_ccode.specs.declared.piece.Piece.{Piece}
 use Rattle.lx_compile.specs.Made.{AreMade, Setting}
@@ -22,6 +24,7 @@ pub record HasOneScanner (all : List Made) : Type 0 where
   pub all_is : all ≡ made.Scanners piece checks warnings cover ∷ made.Outside text ∷ []
   pub valid : IsValid piece
   pub unit : piece.unit ≡ 1
+  pub placed : IsPlaced None piece
 
 module _ (names : List (List ℕ)) (own_switch : Bool) where
   -- what holds for all pieces of the output of a generated source
@@ -34,16 +37,18 @@ module _ (names : List (List ℕ)) (own_switch : Bool) where
   one_scanner place line resolved text (made.Outside other ∷ all) are = absurd are.1
   one_scanner place line resolved text (made.Bare at mark directive ∷ all) are = absurd are.1
   one_scanner place line resolved text (made.Scanners piece checks warnings cover ∷ []) are = absurd are.2
-  one_scanner place line resolved text (made.Scanners piece checks warnings cover ∷ made.Outside other ∷ []) are = record {
-    piece = piece;
-    checks = checks;
-    warnings = warnings;
-    cover = cover;
-    text = other;
-    all_is = refl;
-    valid = are.1.0.generated.valid;
-    unit = are.1.0.generated.fields.unit;
-  }
+  one_scanner place line resolved text (made.Scanners piece checks warnings cover ∷ made.Outside other ∷ []) are =
+      let old : is_three piece.head ≡ false = ap is_three are.1.0.generated.fields.head in record {
+        piece = piece;
+        checks = checks;
+        warnings = warnings;
+        cover = cover;
+        text = other;
+        all_is = refl;
+        valid = are.1.0.generated.valid;
+        unit = are.1.0.generated.fields.unit;
+        placed = record { line = tt; stands = rw old refl };
+      }
   one_scanner place line resolved text (made.Scanners piece checks warnings cover ∷ made.Outside other ∷ one ∷ all) are = absurd are.2.1
   one_scanner place line resolved text (made.Scanners piece checks warnings cover ∷ made.Scanners other more others words ∷ all) are = absurd are.2
   one_scanner place line resolved text (made.Scanners piece checks warnings cover ∷ made.Bare at mark directive ∷ all) are = absurd are.2

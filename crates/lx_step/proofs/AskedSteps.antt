@@ -95,13 +95,13 @@ Goes-try-block piece block old before after count limit formed at behind room re
 
 -- a statement that asks nothing
 pub Goes-step : (piece : Piece) (statement : Stmt) (old new : Scanner) (feed : Feed) (going : Going) → old.limit ≡ feed.window.limit
-    → ((stream : List ℕ) → IsFormed feed.window × IsWindowOf stream (slid feed.window) → IsStep stream piece.eof piece.conds statement old new going)
-    → Moves piece.conds statement old new going → Goes piece statement old new feed feed going
+    → ((stream : List ℕ) → IsFormed feed.window × IsWindowOf stream (slid feed.window) → IsStep stream piece.eof piece.table piece.conds statement old new going)
+    → Moves piece.table piece.conds statement old new going → Goes piece statement old new feed feed going
 Goes-step piece statement old new feed going limit step moves = record {
   used = [];
   fed = unasked;
   asks = λ values. tt;
-  step = λ stream slid_formed is rest values. (step stream (slid_formed, is)).step piece rest values [] refl;
+  step = λ stream slid_formed is rest values. (step stream (slid_formed, is)).step piece rest values [] refl refl;
   leads = moves.leads;
   tables = moves.tables;
   limit = moves.limit ∙ limit;

@@ -66,13 +66,13 @@ entry_block-number (case ∷ cases) number found some first is =
     sym (cond_block-number (case ∷ cases) (cond_name (case ∷ cases) number) ∙ ap (λ at. option_map (λ case. case.block) (slice_get (case ∷ cases) at)) first.first ∙ ap (option_map (λ (case : CondCase). case.block)) is)
 
 -- the step of a statement that sets one of these conditions
-pub IsStep-cond : (stream : List ℕ) (eof : Option ℕ) (conds : List CondCase) (cond word : List ℕ) (number : ℕ) (old : Scanner) → list_any (equal_words cond) (map (λ case. case.cond) conds) ≡ true
-    → number ≡ cond_number conds word → word ≡ cond → IsStep stream eof conds (Cond cond) old (record old { cond = number }) Next
-IsStep-cond stream eof conds cond word number old known is same =
+pub IsStep-cond : (stream : List ℕ) (eof : Option ℕ) (table : List ℕ) (conds : List CondCase) (cond word : List ℕ) (number : ℕ) (old : Scanner) → list_any (equal_words cond) (map (λ case. case.cond) conds) ≡ true
+    → number ≡ cond_number conds word → word ≡ cond → IsStep stream eof table conds (Cond cond) old (record old { cond = number }) Next
+IsStep-cond stream eof table conds cond word number old known is same =
     let numbered : number ≡ cond_number conds cond = is ∙ ap (cond_number conds) same in
     let named : cond_name conds number ≡ cond = ap (cond_name conds) numbered ∙ cond_name-number conds cond known in
     record {
-      step = λ piece rest values answers e. ap (λ name. goes_on rest (record (machine_of conds old (values ++ condition cond ∷ [])) { cond = name }) answers) (sym named);
+      step = λ piece rest values answers e t. ap (λ name. goes_on rest (record (machine_of conds old (values ++ condition cond ∷ [])) { cond = name }) answers) (sym named);
       leads = λ values. refl;
       tables = record { numbering = refl; registers = refl; histories = refl };
       limit = refl;

@@ -2,12 +2,13 @@
 use Rattle.std.proofs.Common.{◌≡◌, ap, sym, subst, refl, ℕ, zero, suc, ◌+◌, Bool, true, false, List, [], ◌∷◌, drop, Option, Some, None, if◌then◌else◌, arith}
 use Rattle.std.specs.List.{AllByRecursion}
 use Rattle.lx_ccode.specs.declared.piece.Stmt.{Stmt}
-use Rattle.lx_ccode.specs.declared.piece.Stmt.TheVariants.{Peek, Skip, MSet, MUnset, MCopy, IfUnit, IfAccept, IfEnd, Need, Try, Tag, Back, Goto, Leave, Code, Jump}
+use Rattle.lx_ccode.specs.declared.piece.Stmt.TheVariants.{Peek, Skip, MSet, MUnset, MCopy, IfUnit, IfIs, IfSet, IfAccept, IfEnd, Need, Try, Tag, Back, Switch, Goto, Leave, Code, Jump}
 use Rattle.lx_ccode.specs.declared.piece.CodeBlock.{CodeBlock}
+use Rattle.lx_ccode.specs.declared.piece.SwitchCase.{SwitchCase}
 use Rattle.lx_ccode.specs.declared.piece.Piece.{Piece}
-use Rattle.lx_ccode.specs.Machine.{Answer, Machine, Next, at_end, back, choose, code_at, ends, goes_on, has_units, if_unit, jump, left, more, need, no_more, peek, refilled, skip, step, unanswered, write_history}
+use Rattle.lx_ccode.specs.Machine.{Answer, Machine, Next, at_end, back, choose, code_at, ends, goes_on, case_block, has_units, if_unit, switch_unit, jump, left, more, need, no_more, peek, refilled, skip, step, unanswered, write_history}
 use Rattle.lx_step.specs.declared.answers.StmtAt.{StmtAt}
-use Rattle.lx_step.specs.Assigned.{block_where, block_where_unit, target, place_after, code_from}
+use Rattle.lx_step.specs.Assigned.{block_of_unit, block_where, block_where_unit, target, place_after, code_from}
 use Rattle.lx_step.specs.Points.{AreAsked, goes_to}
 
 drop-next : {A : Type 0} (items : List A) (place : ℕ) (item : A) (rest : List A) → drop place items ≡ item ∷ rest → drop (suc place) items ≡ rest
@@ -68,9 +69,14 @@ module _ (piece : Piece) (stream : List ℕ) (place : StmtAt) (rest : List Stmt)
     skips true = next
     skips false = tt
 
-    tests_unit : (unit : Option ℕ) (greatest block : ℕ) → Follows piece.blocks place (block_where_unit unit greatest block) (if_unit unit greatest (code_at piece.blocks (Some block)) rest machine [])
-    tests_unit None greatest block = tt
-    tests_unit (Some unit) greatest block = chooses _ block
+    tests_unit : (unit : Option ℕ) (test : ℕ → Bool) (block : ℕ) → Follows piece.blocks place (block_where_unit unit test block) (if_unit unit test (code_at piece.blocks (Some block)) rest machine [])
+    tests_unit None test block = tt
+    tests_unit (Some unit) test block = chooses _ block
+
+    switches : (cases : List SwitchCase) (last : ℕ) (unit : Option ℕ)
+        → Follows piece.blocks place (block_of_unit cases last unit) (switch_unit unit (λ unit. code_at piece.blocks (Some (case_block cases last unit))) machine [])
+    switches cases last None = tt
+    switches cases last (Some unit) = jumps (case_block cases last unit) machine []
 
     writes : (history : ℕ) (content : List (Option ℕ)) → Follows piece.blocks place None (write_history history content rest machine [])
     writes zero content = tt
@@ -80,13 +86,15 @@ module _ (piece : Piece) (stream : List ℕ) (place : StmtAt) (rest : List Stmt)
     goes_back None = tt
     goes_back (Some offset) = next
 
-    steps : (statement : Stmt) → Follows piece.blocks place (target statement machine) (step piece stream statement rest machine [])
+    steps : (statement : Stmt) → Follows piece.blocks place (target piece.table statement machine) (step piece stream statement rest machine [])
     steps Peek = peeks _
     steps Skip = skips _
     steps (MSet history) = writes history _
     steps (MUnset history) = writes history _
     steps (MCopy history source) = writes history _
-    steps (IfUnit greatest block) = tests_unit machine.unit greatest block
+    steps (IfUnit greatest block) = tests_unit machine.unit _ block
+    steps (IfIs unit block) = tests_unit machine.unit _ block
+    steps (IfSet set block) = tests_unit machine.unit _ block
     steps (IfAccept accept block) = chooses _ block
     steps (IfEnd block) = chooses _ block
     steps (Need units) = needs units [] machine tt
@@ -94,6 +102,7 @@ module _ (piece : Piece) (stream : List ℕ) (place : StmtAt) (rest : List Stmt)
     steps (Tag tag true history) = next
     steps (Tag tag false register) = next
     steps (Back register) = goes_back _
+    steps (Switch cases last) = switches cases last machine.unit
     steps (Goto block) = jumps block machine []
     steps Leave = tt
     steps (Code rule line action) = tt
@@ -103,7 +112,7 @@ module _ (piece : Piece) (stream : List ℕ) (place : StmtAt) (rest : List Stmt)
   -- ---- a step with answers
 
   steps_asked : (start size : ℕ) (statement : Stmt) (used : List Answer) (machine : Machine) → AllByRecursion IsRefilled used → AreAsked start size used statement machine
-      → Follows piece.blocks place (goes_to used statement machine) (step piece stream statement rest machine used)
+      → Follows piece.blocks place (goes_to piece.table used statement machine) (step piece stream statement rest machine used)
   steps_asked start size statement [] machine refills asked = steps machine statement
   steps_asked start size statement (left refills ∷ answers) machine none asked = absurd none.0
   steps_asked start size (Need units) (refilled (more dropped added) ∷ answers) machine refills asked = needs units (refilled (more dropped added) ∷ answers) machine refills
@@ -114,7 +123,7 @@ module _ (piece : Piece) (stream : List ℕ) (place : StmtAt) (rest : List Stmt)
 
 pub code_from-step : (piece : Piece) (stream : List ℕ) (start size : ℕ) (place : StmtAt) (statement : Stmt) (rest code : List Stmt) (used : List Answer) (machine after : Machine)
     → code_from piece.blocks place ≡ Some (statement ∷ rest) → AllByRecursion IsRefilled used → AreAsked start size used statement machine
-    → step piece stream statement rest machine used ≡ goes_on code after [] → code_from piece.blocks (place_after place (goes_to used statement machine)) ≡ Some code
+    → step piece stream statement rest machine used ≡ goes_on code after [] → code_from piece.blocks (place_after place (goes_to piece.table used statement machine)) ≡ Some code
 code_from-step piece stream start size place statement rest code used machine after here refills asked e =
-    subst (λ (next : Next). Follows piece.blocks place (goes_to used statement machine) next) e
+    subst (λ (next : Next). Follows piece.blocks place (goes_to piece.table used statement machine) next) e
     (steps_asked piece stream place rest (code_from-next piece.blocks place statement rest here) start size statement used machine refills asked)

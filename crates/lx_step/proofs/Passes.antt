@@ -92,4 +92,4 @@ module _ (piece : Piece) (at : Position) (statement : Stmt) (old new : Scanner) 
   stops_of (made.Stops given) passed steps steps' told so is other ends = (let same : Ends given ≡ Ends told = sym is.0 ∙ ends in cc)
   stops_of (made.Goes going) (On next) steps steps' told so is other ends = absurd cc
   stops_of (made.Goes going) (Ends given) steps steps' told so is other ends =
-      absurd (other (subst IsAnswer (let same : given ≡ told = cc in same) (is.0.1 (goes_to so.used statement (machine_of piece.conds old [])) (so.leads []))))
+      absurd (other (subst IsAnswer (let same : given ≡ told = cc in same) (is.0.1 (goes_to piece.table so.used statement (machine_of piece.conds old [])) (so.leads []))))

@@ -1,12 +1,12 @@
 -- A step of a match that was left before: with values that were given before its own, and with answers that come behind those that it uses.
 use Rattle.std.proofs.Common.{◌≡◌, ◌∙◌, ap, refl, sym, subst, ℕ, zero, suc, ◌+◌, Bool, true, false, List, [], ◌∷◌, ◌++◌, Option, Some, None}
-use Rattle.std.specs.Prelude.{map, if◌then◌else◌, nat_le}
+use Rattle.std.specs.Prelude.{map, if◌then◌else◌}
 use Rattle.std.proofs.lemmas.List.{append_assoc}
 use Rattle.lx_ccode.specs.declared.piece.CodeBlock.{CodeBlock}
 use Rattle.lx_ccode.specs.declared.piece.Piece.{Piece}
 use Rattle.lx_ccode.specs.declared.piece.Stmt.{Stmt}
-use Rattle.lx_ccode.specs.declared.piece.Stmt.TheVariants.{Peek, Skip, MSet, MUnset, MCopy, IfUnit, IfAccept, IfEnd, Need, Try, Cond, Tag, Count, End, Back, Goto}
-use Rattle.lx_ccode.specs.Machine.{Answer, Machine, Next, Value, at_end, back, choose, come_back, condition, ends, given, goes_on, group_count, group_end, has_units, if_unit, jump, left, more, need, no_more, peek, refilled, skip, step, tag_history, tag_offset, try, unanswered, write_history}
+use Rattle.lx_ccode.specs.declared.piece.Stmt.TheVariants.{Peek, Skip, MSet, MUnset, MCopy, IfUnit, IfIs, IfSet, IfAccept, IfEnd, Need, Try, Cond, Tag, Count, End, Back, Switch, Goto}
+use Rattle.lx_ccode.specs.Machine.{Answer, Machine, Next, Value, at_end, back, choose, come_back, condition, ends, given, goes_on, group_count, group_end, has_units, if_unit, switch_unit, jump, left, more, need, no_more, peek, refilled, skip, step, tag_history, tag_offset, try, unanswered, write_history}
 use Rattle.lx_step.specs.Calls.{undropped}
 
 -- the machine with values that were given before its own
@@ -56,10 +56,15 @@ module _ (front : List Value) (others : List Answer) where
   between-skip true rest machine used = refl
   between-skip false rest machine used = refl
 
-  between-if_unit : (unit : Option ℕ) (greatest : ℕ) (target : Option (List Stmt)) (rest : List Stmt) (machine : Machine) (used : List Answer)
-      → if_unit unit greatest target rest (behind front machine) (with_others used) ≡ between (if_unit unit greatest target rest machine used)
-  between-if_unit None greatest target rest machine used = refl
-  between-if_unit (Some unit) greatest target rest machine used = between-choose (nat_le unit greatest) target rest machine used
+  between-if_unit : (unit : Option ℕ) (test : ℕ → Bool) (target : Option (List Stmt)) (rest : List Stmt) (machine : Machine) (used : List Answer)
+      → if_unit unit test target rest (behind front machine) (with_others used) ≡ between (if_unit unit test target rest machine used)
+  between-if_unit None test target rest machine used = refl
+  between-if_unit (Some unit) test target rest machine used = between-choose (test unit) target rest machine used
+
+  between-switch_unit : (unit : Option ℕ) (target : ℕ → Option (List Stmt)) (machine : Machine) (used : List Answer)
+      → switch_unit unit target (behind front machine) (with_others used) ≡ between (switch_unit unit target machine used)
+  between-switch_unit None target machine used = refl
+  between-switch_unit (Some unit) target machine used = between-jump (target unit) machine used
 
   between-write_history : (history : ℕ) (content : List (Option ℕ)) (rest : List Stmt) (machine : Machine) (used : List Answer)
       → write_history history content rest (behind front machine) (with_others used) ≡ between (write_history history content rest machine used)
@@ -106,7 +111,9 @@ module _ (front : List Value) (others : List Answer) where
     between-step (MSet history) answered = between-write_history history _ rest machine used
     between-step (MUnset history) answered = between-write_history history _ rest machine used
     between-step (MCopy history source) answered = between-write_history history _ rest machine used
-    between-step (IfUnit greatest block) answered = between-if_unit machine.unit greatest _ rest machine used
+    between-step (IfUnit greatest block) answered = between-if_unit machine.unit _ _ rest machine used
+    between-step (IfIs unit block) answered = between-if_unit machine.unit _ _ rest machine used
+    between-step (IfSet set block) answered = between-if_unit machine.unit _ _ rest machine used
     between-step (IfAccept accept block) answered = between-choose _ _ rest machine used
     between-step (IfEnd block) answered = between-choose _ _ rest machine used
     between-step (Need units) answered = between-need piece.blocks units rest machine used answered
@@ -117,5 +124,6 @@ module _ (front : List Value) (others : List Answer) where
     between-step (Count groups) answered = between-given (group_count groups) rest machine used
     between-step (End place register) answered = between-given (group_end place (machine.registers register)) rest machine used
     between-step (Back register) answered = between-back (machine.registers register) rest machine used
+    between-step (Switch cases last) answered = between-switch_unit machine.unit _ machine used
     between-step (Goto block) answered = between-jump _ machine used
     between-step _ answered = refl

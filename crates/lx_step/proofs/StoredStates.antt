@@ -1,14 +1,14 @@
 -- The state that a match over windows stores is one of its piece's.
 use Rattle.std.proofs.Common.{◌≡◌, ◌∙◌, ap, refl, sym, subst, ℕ, zero, suc, ◌+◌, Bool, true, false, ◌||◌, List, [], ◌∷◌, Option, Some, None, IfSome, eq-eqb}
-use Rattle.std.specs.Prelude.{◌==◌, if◌then◌else◌, nat_le, slice_get}
+use Rattle.std.specs.Prelude.{◌==◌, if◌then◌else◌, slice_get}
 use Rattle.std.specs.List.{list_any}
 use Rattle.std.proofs.lemmas.List.Folds.{list_any-append}
 use Rattle.lx_ccode.specs.declared.piece.CodeBlock.{CodeBlock}
 use Rattle.lx_ccode.specs.declared.piece.Piece.{Piece}
 use Rattle.lx_ccode.specs.declared.piece.Stmt.{Stmt}
-use Rattle.lx_ccode.specs.declared.piece.Stmt.TheVariants.{Peek, Skip, MSet, MUnset, MCopy, IfUnit, IfAccept, IfEnd, State, Need, Try, Tag, Back, Goto, Leave, Code, Jump}
+use Rattle.lx_ccode.specs.declared.piece.Stmt.TheVariants.{Peek, Skip, MSet, MUnset, MCopy, IfUnit, IfIs, IfSet, IfAccept, IfEnd, State, Need, Try, Tag, Back, Switch, Goto, Leave, Code, Jump}
 use Rattle.lx_ccode.specs.Effects.{machine_after}
-use Rattle.lx_ccode.specs.Machine.{Answer, Machine, Next, back, choose, code_at, ends, goes_on, has_units, if_unit, jump, left, more, need, no_more, peek, refilled, skip, step, stored_block, try, write_history}
+use Rattle.lx_ccode.specs.Machine.{Answer, Machine, Next, back, choose, code_at, ends, goes_on, has_units, case_block, if_unit, switch_unit, jump, left, more, need, no_more, peek, refilled, skip, step, stored_block, try, write_history}
 use Rattle.lx_ccode.specs.Runs.{entry_block}
 use Rattle.lx_ccode.specs.States.{stores}
 use Rattle.lx_ccode.specs.Statements.{all_statements, code_of}
@@ -84,9 +84,13 @@ module _ (blocks : List CodeBlock) where
     with-skip true machine answers = here
     with-skip false machine answers = tt
 
-    with-if_unit : (unit : Option ℕ) (greatest block : ℕ) (machine : Machine) (answers : List Answer) → GoesOnWith (if_unit unit greatest (code_at blocks (Some block)) rest machine answers)
-    with-if_unit None greatest block machine answers = tt
-    with-if_unit (Some unit) greatest block machine answers = with-choose (nat_le unit greatest) block machine answers
+    with-if_unit : (unit : Option ℕ) (test : ℕ → Bool) (block : ℕ) (machine : Machine) (answers : List Answer) → GoesOnWith (if_unit unit test (code_at blocks (Some block)) rest machine answers)
+    with-if_unit None test block machine answers = tt
+    with-if_unit (Some unit) test block machine answers = with-choose (test unit) block machine answers
+
+    with-switch_unit : (unit : Option ℕ) (block : ℕ → ℕ) (machine : Machine) (answers : List Answer) → GoesOnWith (switch_unit unit (λ unit. code_at blocks (Some (block unit))) machine answers)
+    with-switch_unit None block machine answers = tt
+    with-switch_unit (Some unit) block machine answers = with-jump (Some (block unit)) machine answers
 
     with-write_history : (history : ℕ) (content : List (Option ℕ)) (machine : Machine) (answers : List Answer) → GoesOnWith (write_history history content rest machine answers)
     with-write_history zero content machine answers = tt
@@ -116,7 +120,9 @@ with-step piece stream rest machine answers Skip here = with-skip piece.blocks r
 with-step piece stream rest machine answers (MSet history) here = with-write_history piece.blocks rest here history _ machine answers
 with-step piece stream rest machine answers (MUnset history) here = with-write_history piece.blocks rest here history _ machine answers
 with-step piece stream rest machine answers (MCopy history source) here = with-write_history piece.blocks rest here history _ machine answers
-with-step piece stream rest machine answers (IfUnit greatest block) here = with-if_unit piece.blocks rest here machine.unit greatest block machine answers
+with-step piece stream rest machine answers (IfUnit greatest block) here = with-if_unit piece.blocks rest here machine.unit _ block machine answers
+with-step piece stream rest machine answers (IfIs unit block) here = with-if_unit piece.blocks rest here machine.unit _ block machine answers
+with-step piece stream rest machine answers (IfSet set block) here = with-if_unit piece.blocks rest here machine.unit _ block machine answers
 with-step piece stream rest machine answers (IfAccept accept block) here = with-choose piece.blocks rest here _ block machine answers
 with-step piece stream rest machine answers (IfEnd block) here = with-choose piece.blocks rest here _ block machine answers
 with-step piece stream rest machine answers (Need units) here = with-need piece.blocks rest here units machine answers
@@ -124,6 +130,7 @@ with-step piece stream rest machine answers (Try block) here = with-try piece.bl
 with-step piece stream rest machine answers (Tag tag true history) here = here
 with-step piece stream rest machine answers (Tag tag false register) here = here
 with-step piece stream rest machine answers (Back register) here = with-back piece.blocks rest here _ machine answers
+with-step piece stream rest machine answers (Switch cases last) here = with-switch_unit piece.blocks rest here machine.unit (case_block cases last) machine answers
 with-step piece stream rest machine answers (Goto block) here = with-jump piece.blocks (Some block) machine answers
 with-step piece stream rest machine answers Leave here = tt
 with-step piece stream rest machine answers (Code rule line action) here = tt

@@ -91,16 +91,16 @@ written zero content rest machine answers some = absurd (some refl)
 written (suc history) content rest machine answers some = refl
 
 -- a statement that writes a history, and does nothing else
-pub IsStep-history : (stream : List ℕ) (eof : Option ℕ) (conds : List CondCase) (statement : Stmt) (old : Scanner) (others : List (List (Option ℕ))) (history : ℕ) (content : List (Option ℕ)) → (history ≡ 0 → ⊥)
+pub IsStep-history : (stream : List ℕ) (eof : Option ℕ) (table : List ℕ) (conds : List CondCase) (statement : Stmt) (old : Scanner) (others : List (List (Option ℕ))) (history : ℕ) (content : List (Option ℕ)) → (history ≡ 0 → ⊥)
     → place_of old.numbering.histories.keys history < length old.histories → others ≡ set old.histories (place_of old.numbering.histories.keys history) content
     → ((piece : Piece) (rest : List Stmt) (values : List Value) (answers : List Answer) → step piece stream statement rest (machine_of conds old values) answers
     ≡ write_history history content rest (machine_of conds old values) answers)
-    → ((values : List Value) → values_after statement (machine_of conds old values) values ≡ values) → ((values : List Value) → target statement (machine_of conds old values) ≡ None)
-    → state_after statement old.state ≡ old.state → IsStep stream eof conds statement old (record old { histories = others }) Next
-IsStep-history stream eof conds statement old others history content some h is step values_kept none stored = record {
+    → ((values : List Value) → values_after statement (machine_of conds old values) values ≡ values) → ((values : List Value) → target table statement (machine_of conds old values) ≡ None)
+    → state_after statement old.state ≡ old.state → IsStep stream eof table conds statement old (record old { histories = others }) Next
+IsStep-history stream eof table conds statement old others history content some h is step values_kept none stored = record {
   state = sym stored;
   from = λ start from. record { cursor = from.cursor; marker = from.marker; registers = from.registers };
-  step = λ piece rest values answers e. step piece rest values answers ∙ written history content rest (machine_of conds old values) answers some
+  step = λ piece rest values answers e t. step piece rest values answers ∙ written history content rest (machine_of conds old values) answers some
       ∙ ap (λ machine. goes_on rest machine answers) (sym (moved values) ∙ ap (λ more. machine_of conds (record old { histories = others }) more) (sym (values_kept values)));
   leads = none;
   tables = record { numbering = refl; registers = refl; histories = ap length is ∙ length-set old.histories (place_of old.numbering.histories.keys history) content };
@@ -114,15 +114,15 @@ IsStep-history stream eof conds statement old others history content some h is s
       ∙ updated-at old.numbering.histories.keys old.histories history content [] h)
 
 -- a statement that sets a register, and does nothing else
-pub IsStep-register : (stream : List ℕ) (eof : Option ℕ) (conds : List CondCase) (statement : Stmt) (old new : Scanner) (register : ℕ) (value : Option ℕ) → SetsRegister old new register value
+pub IsStep-register : (stream : List ℕ) (eof : Option ℕ) (table : List ℕ) (conds : List CondCase) (statement : Stmt) (old new : Scanner) (register : ℕ) (value : Option ℕ) → SetsRegister old new register value
     → ((piece : Piece) (rest : List Stmt) (values : List Value) (answers : List Answer) → step piece stream statement rest (machine_of conds old values) answers
     ≡ goes_on rest (record (machine_of conds old values) { registers = updated register value (content_of old) }) answers)
-    → ((values : List Value) → values_after statement (machine_of conds old values) values ≡ values) → ((values : List Value) → target statement (machine_of conds old values) ≡ None)
-    → state_after statement old.state ≡ old.state → ((start : ℕ) → IsFrom start old → IsBehind start value) → IsStep stream eof conds statement old new Next
-IsStep-register stream eof conds statement old new register value sets step values_kept none stored behind = record {
+    → ((values : List Value) → values_after statement (machine_of conds old values) values ≡ values) → ((values : List Value) → target table statement (machine_of conds old values) ≡ None)
+    → state_after statement old.state ≡ old.state → ((start : ℕ) → IsFrom start old → IsBehind start value) → IsStep stream eof table conds statement old new Next
+IsStep-register stream eof table conds statement old new register value sets step values_kept none stored behind = record {
   state = sets.state ∙ sym stored;
   from = λ start from. sets.from start (behind start from) from;
-  step = λ piece rest values answers e. step piece rest values answers
+  step = λ piece rest values answers e t. step piece rest values answers
       ∙ ap (λ machine. goes_on rest machine answers) (sym (sets.machine conds values) ∙ ap (λ others. machine_of conds new others) (sym (values_kept values)));
   leads = none;
   tables = sets.tables;
@@ -131,22 +131,22 @@ IsStep-register stream eof conds statement old new register value sets step valu
 }
 
 -- a step of any stream is a step of this one
-pub IfOk-IsStep : (result : Result Going Memory) (eof : Option ℕ) (conds : List CondCase) (statement made : Stmt) (old new : Scanner) (Holds : List ℕ → Type 0) → statement ≡ made
-    → IfOk result (λ going. (stream : List ℕ) (eof : Option ℕ) (conds : List CondCase) → IsStep stream eof conds made old new going)
-    → IfOk result (λ going. (stream : List ℕ) → Holds stream → IsStep stream eof conds statement old new going)
-IfOk-IsStep (Ok going) eof conds statement made old new Holds e h = λ stream holds. rw e (h stream eof conds)
-IfOk-IsStep (Err memory) eof conds statement made old new Holds e h = tt
+pub IfOk-IsStep : (result : Result Going Memory) (eof : Option ℕ) (table : List ℕ) (conds : List CondCase) (statement made : Stmt) (old new : Scanner) (Holds : List ℕ → Type 0) → statement ≡ made
+    → IfOk result (λ going. (stream : List ℕ) (eof : Option ℕ) (table : List ℕ) (conds : List CondCase) → IsStep stream eof table conds made old new going)
+    → IfOk result (λ going. (stream : List ℕ) → Holds stream → IsStep stream eof table conds statement old new going)
+IfOk-IsStep (Ok going) eof table conds statement made old new Holds e h = λ stream holds. rw e (h stream eof table conds)
+IfOk-IsStep (Err memory) eof table conds statement made old new Holds e h = tt
 
 -- a step of any name is a step of this one
-pub IfOk-IsStep-tag : (result : Result Going Memory) (eof : Option ℕ) (conds : List CondCase) (statement : Stmt) (name : List ℕ) (place : ℕ) (scanner : Scanner) (Holds : List ℕ → Type 0)
+pub IfOk-IsStep-tag : (result : Result Going Memory) (eof : Option ℕ) (table : List ℕ) (conds : List CondCase) (statement : Stmt) (name : List ℕ) (place : ℕ) (scanner : Scanner) (Holds : List ℕ → Type 0)
     → statement ≡ Tag name true place
-    → IfOk result (λ going. (stream : List ℕ) (eof : Option ℕ) (conds : List CondCase) (name : List ℕ) → IsStep stream eof conds (Tag name true place) scanner scanner going)
-    → IfOk result (λ going. (stream : List ℕ) → Holds stream → IsStep stream eof conds statement scanner scanner going)
-IfOk-IsStep-tag (Ok going) eof conds statement name place scanner Holds e h = λ stream holds. rw e (h stream eof conds name)
-IfOk-IsStep-tag (Err memory) eof conds statement name place scanner Holds e h = tt
+    → IfOk result (λ going. (stream : List ℕ) (eof : Option ℕ) (table : List ℕ) (conds : List CondCase) (name : List ℕ) → IsStep stream eof table conds (Tag name true place) scanner scanner going)
+    → IfOk result (λ going. (stream : List ℕ) → Holds stream → IsStep stream eof table conds statement scanner scanner going)
+IfOk-IsStep-tag (Ok going) eof table conds statement name place scanner Holds e h = λ stream holds. rw e (h stream eof table conds name)
+IfOk-IsStep-tag (Err memory) eof table conds statement name place scanner Holds e h = tt
 
-pub Moves-step : (stream : List ℕ) (eof : Option ℕ) (conds : List CondCase) (statement : Stmt) (old new : Scanner) (going : Going) → IsStep stream eof conds statement old new going → Moves conds statement old new going
-Moves-step stream eof conds statement old new going step = record {
+pub Moves-step : (stream : List ℕ) (eof : Option ℕ) (table : List ℕ) (conds : List CondCase) (statement : Stmt) (old new : Scanner) (going : Going) → IsStep stream eof table conds statement old new going → Moves table conds statement old new going
+Moves-step stream eof table conds statement old new going step = record {
   leads = step.leads;
   tables = step.tables;
   limit = step.limit;
@@ -155,14 +155,14 @@ Moves-step stream eof conds statement old new going step = record {
   from = step.from;
 }
 
-pub IfOk-Moves : (result : Result Going Memory) (conds : List CondCase) (statement made : Stmt) (old new : Scanner) → statement ≡ made
-    → IfOk result (λ going. (stream : List ℕ) (eof : Option ℕ) (conds : List CondCase) → IsStep stream eof conds made old new going)
-    → IfOk result (λ going. Moves conds statement old new going)
-IfOk-Moves (Ok going) conds statement made old new e h = rw e (Moves-step [] None conds made old new going (h [] None conds))
-IfOk-Moves (Err memory) conds statement made old new e h = tt
+pub IfOk-Moves : (result : Result Going Memory) (table : List ℕ) (conds : List CondCase) (statement made : Stmt) (old new : Scanner) → statement ≡ made
+    → IfOk result (λ going. (stream : List ℕ) (eof : Option ℕ) (table : List ℕ) (conds : List CondCase) → IsStep stream eof table conds made old new going)
+    → IfOk result (λ going. Moves table conds statement old new going)
+IfOk-Moves (Ok going) table conds statement made old new e h = rw e (Moves-step [] None table conds made old new going (h [] None table conds))
+IfOk-Moves (Err memory) table conds statement made old new e h = tt
 
-pub IfOk-Moves-tag : (result : Result Going Memory) (conds : List CondCase) (statement : Stmt) (name : List ℕ) (place : ℕ) (scanner : Scanner) → statement ≡ Tag name true place
-    → IfOk result (λ going. (stream : List ℕ) (eof : Option ℕ) (conds : List CondCase) (name : List ℕ) → IsStep stream eof conds (Tag name true place) scanner scanner going)
-    → IfOk result (λ going. Moves conds statement scanner scanner going)
-IfOk-Moves-tag (Ok going) conds statement name place scanner e h = rw e (Moves-step [] None conds (Tag name true place) scanner scanner going (h [] None conds name))
-IfOk-Moves-tag (Err memory) conds statement name place scanner e h = tt
+pub IfOk-Moves-tag : (result : Result Going Memory) (table : List ℕ) (conds : List CondCase) (statement : Stmt) (name : List ℕ) (place : ℕ) (scanner : Scanner) → statement ≡ Tag name true place
+    → IfOk result (λ going. (stream : List ℕ) (eof : Option ℕ) (table : List ℕ) (conds : List CondCase) (name : List ℕ) → IsStep stream eof table conds (Tag name true place) scanner scanner going)
+    → IfOk result (λ going. Moves table conds statement scanner scanner going)
+IfOk-Moves-tag (Ok going) table conds statement name place scanner e h = rw e (Moves-step [] None table conds (Tag name true place) scanner scanner going (h [] None table conds name))
+IfOk-Moves-tag (Err memory) table conds statement name place scanner e h = tt

@@ -324,7 +324,7 @@ module _ (piece : Piece) (entry : Point) (before feed : Feed) (first given : Giv
         leads = λ stream is.
             subst (LeadsTo piece stream before.window.start before.window.size entry (way.answers ++ goes.used))
             (ap (λ place. record (point_of piece next new values-here (suc steps) (with_statement (place_of at) statement assigned)) { place = place })
-            (sym (to.2 (goes_to goes.used statement (machine_of piece.conds old way.values)) (goes.leads way.values)))
+            (sym (to.2 (goes_to piece.table goes.used statement (machine_of piece.conds old way.values)) (goes.leads way.values)))
             ∙ ap (λ count. point_of piece next new values-here count (with_statement (place_of at) statement assigned)) (sym counts)
             ∙ ap (λ places. point_of piece next new values-here steps' places) (sym notes))
             (makes (way.leads stream (IsWindowOf-fed stream goes.fed is))
@@ -339,7 +339,7 @@ module _ (piece : Piece) (entry : Point) (before feed : Feed) (first given : Giv
           made-here going goes (ends (outcome_of told) (machine_of piece.conds new values-here)) formed (to.0 (machine_of piece.conds new values-here) []) stream is
 
       answer-here : (going : Going) (told : Outcome) (goes : Goes piece statement old new feed after going) → GoesTo piece.blocks at going (Err told) → IsAnswer told
-      answer-here going told goes to = to.1 (goes_to goes.used statement (machine_of piece.conds old way.values)) (goes.leads way.values)
+      answer-here going told goes to = to.1 (goes_to piece.table goes.used statement (machine_of piece.conds old way.values)) (goes.leads way.values)
 
       -- and ended the match
       goes-ends : (going : Going) (told : Outcome) (goes : Goes piece statement old new feed after going) → IsFormed after.window → GoesTo piece.blocks at going (Err told)

@@ -75,7 +75,7 @@ module _ (piece : Piece) (statement : Stmt) (old new : Scanner) (before after : 
     pub step : (stream : List ℕ) → IsFormed after.window → IsWindowOf stream (slid after.window) → (rest : List Stmt) (values : List Value) →
         step piece stream statement rest (machine_of piece.conds old values) used
         ≡ next_of piece.blocks rest going (machine_of piece.conds new (values_after statement (machine_of piece.conds old values) values)) []
-    pub leads : (values : List Value) → Leads going (goes_to used statement (machine_of piece.conds old values))
+    pub leads : (values : List Value) → Leads going (goes_to piece.table used statement (machine_of piece.conds old values))
     pub tables : KeepsTables old new
     pub limit : new.limit ≡ after.window.limit
     pub cond : IsCond piece.conds old.cond → IsCond piece.conds new.cond

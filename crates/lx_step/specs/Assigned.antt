@@ -2,9 +2,10 @@
 use Rattle.std.specs.Prelude.{ℕ, ◌+◌, Bool, true, false, List, [], ◌∷◌, ◌++◌, drop, Option, Some, None, ◌==◌, ◌&&◌, nat_le, if◌then◌else◌}
 use Rattle.std.specs.List.{list_any}
 use Rattle.lx_ccode.specs.declared.piece.Stmt.{Stmt}
-use Rattle.lx_ccode.specs.declared.piece.Stmt.TheVariants.{IfUnit, IfAccept, IfEnd, Goto, Tag, Count, Cond}
+use Rattle.lx_ccode.specs.declared.piece.Stmt.TheVariants.{IfUnit, IfIs, IfSet, IfAccept, IfEnd, Switch, Goto, Tag, Count, Cond}
 use Rattle.lx_ccode.specs.declared.piece.CodeBlock.{CodeBlock}
-use Rattle.lx_ccode.specs.Machine.{Machine, code_at}
+use Rattle.lx_ccode.specs.declared.piece.SwitchCase.{SwitchCase}
+use Rattle.lx_ccode.specs.Machine.{Machine, case_block, code_at, is_among}
 use Rattle.lx_step.specs.declared.answers.StmtAt.{StmtAt}
 
 -- Tag, Count or Cond
@@ -19,18 +20,26 @@ abbrev pub block_where : Bool → (block : ℕ) → Option ℕ
 block_where true block = Some block
 block_where false block = None
 
--- the block where the unit that was read is at most this
-abbrev pub block_where_unit : Option ℕ → (greatest block : ℕ) → Option ℕ
-block_where_unit None greatest block = None
-block_where_unit (Some unit) greatest block = block_where (nat_le unit greatest) block
+-- the block where the test holds of the unit that was read
+abbrev pub block_where_unit : Option ℕ → (test : ℕ → Bool) → (block : ℕ) → Option ℕ
+block_where_unit None test block = None
+block_where_unit (Some unit) test block = block_where (test unit) block
+
+-- the block to which a switch goes by the unit that was read
+abbrev pub block_of_unit : List SwitchCase → (last : ℕ) → Option ℕ → Option ℕ
+block_of_unit cases last None = None
+block_of_unit cases last (Some unit) = Some (case_block cases last unit)
 
 -- the block to which a step goes, where it does not go on in its own; a refill that brings nothing goes to none
-abbrev pub target : Stmt → Machine → Option ℕ
-target (IfUnit greatest block) machine = block_where_unit machine.unit greatest block
-target (IfAccept accept block) machine = block_where (machine.accept == accept) block
-target (IfEnd block) machine = block_where (nat_le machine.limit machine.cursor) block
-target (Goto block) machine = Some block
-target _ machine = None
+abbrev pub target : (table : List ℕ) → Stmt → Machine → Option ℕ
+target table (IfUnit greatest block) machine = block_where_unit machine.unit (λ unit. nat_le unit greatest) block
+target table (IfIs unit block) machine = block_where_unit machine.unit (λ read. read == unit) block
+target table (IfSet set block) machine = block_where_unit machine.unit (is_among table set) block
+target table (IfAccept accept block) machine = block_where (machine.accept == accept) block
+target table (IfEnd block) machine = block_where (nat_le machine.limit machine.cursor) block
+target table (Switch cases last) machine = block_of_unit cases last machine.unit
+target table (Goto block) machine = Some block
+target table _ machine = None
 
 -- the next statement, or statement 0 of the block
 abbrev pub place_after : StmtAt → Option ℕ → StmtAt

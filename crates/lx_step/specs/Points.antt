@@ -67,10 +67,10 @@ AreAsked start size [] statement machine = Unit {0}
 AreAsked start size (answer ∷ answers) statement machine = Asks start size statement machine
 
 -- the block to which a step goes, where it does not go on in its own
-abbrev pub goes_to : List Answer → Stmt → Machine → Option ℕ
-goes_to [] statement machine = target statement machine
-goes_to (refilled (more dropped added) ∷ answers) (Try block) machine = Some block
-goes_to (answer ∷ answers) statement machine = target statement machine
+abbrev pub goes_to : (table : List ℕ) → List Answer → Stmt → Machine → Option ℕ
+goes_to table [] statement machine = target table statement machine
+goes_to table (refilled (more dropped added) ∷ answers) (Try block) machine = Some block
+goes_to table (answer ∷ answers) statement machine = target table statement machine
 
 -- ---- steps
 
@@ -79,9 +79,9 @@ abbrev pub limited : (limit : ℕ) → Point → Point
 limited limit point = record point { machine = record point.machine { limit = limit } }
 
 -- the point behind a step that went on
-abbrev pub point_after : Point → Stmt → (used : List Answer) → (code : List Stmt) → Machine → Point
-point_after point statement used code machine = record {
-  place = place_after point.place (goes_to used statement point.machine);
+abbrev pub point_after : (table : List ℕ) → Point → Stmt → (used : List Answer) → (code : List Stmt) → Machine → Point
+point_after table point statement used code machine = record {
+  place = place_after point.place (goes_to table used statement point.machine);
   code = code;
   machine = machine;
   steps = suc point.steps;
@@ -109,4 +109,4 @@ module _ (piece : Piece) (stream : List ℕ) (start size : ℕ) where
         → LeadsTo from others (limited (point.machine.limit + added) point)
     makes : {answers others used : List Answer} {point : Point} {statement : Stmt} {rest code : List Stmt} {machine : Machine} → LeadsTo from answers point
         → Makes point statement rest used (goes_on code machine []) → others ≡ answers ++ used
-        → LeadsTo from others (point_after point statement used code machine)
+        → LeadsTo from others (point_after piece.table point statement used code machine)

@@ -127,12 +127,12 @@ abbrev pub state_after : Stmt → Option ℕ → Option ℕ
 state_after (State state) before = Some state
 state_after _ before = before
 
--- from the old to the new scanner the machine made the statement, on any piece with this unit at the buffer's end and these conditions
-pub record IsStep (stream : List ℕ) (eof : Option ℕ) (conds : List CondCase) (statement : Stmt) (old new : Scanner) (going : Going) : Type 0 where
-  pub step : (piece : Piece) (rest : List Stmt) (values : List Value) (answers : List Answer) → piece.eof ≡ eof →
+-- from the old to the new scanner the machine made the statement, on any piece with this unit at the buffer's end, this table and these conditions
+pub record IsStep (stream : List ℕ) (eof : Option ℕ) (table : List ℕ) (conds : List CondCase) (statement : Stmt) (old new : Scanner) (going : Going) : Type 0 where
+  pub step : (piece : Piece) (rest : List Stmt) (values : List Value) (answers : List Answer) → piece.eof ≡ eof → piece.table ≡ table →
       step piece stream statement rest (machine_of conds old values) answers
       ≡ next_of piece.blocks rest going (machine_of conds new (values_after statement (machine_of conds old values) values)) answers
-  pub leads : (values : List Value) → Leads going (target statement (machine_of conds old values))
+  pub leads : (values : List Value) → Leads going (target table statement (machine_of conds old values))
   pub tables : KeepsTables old new
   pub limit : new.limit ≡ old.limit
   pub cond : IsCond conds old.cond → IsCond conds new.cond
@@ -140,8 +140,8 @@ pub record IsStep (stream : List ℕ) (eof : Option ℕ) (conds : List CondCase)
   pub from : (start : ℕ) → IsFrom start old → IsFrom start new
 
 -- what a step is on any stream
-pub record Moves (conds : List CondCase) (statement : Stmt) (old new : Scanner) (going : Going) : Type 0 where
-  pub leads : (values : List Value) → Leads going (target statement (machine_of conds old values))
+pub record Moves (table : List ℕ) (conds : List CondCase) (statement : Stmt) (old new : Scanner) (going : Going) : Type 0 where
+  pub leads : (values : List Value) → Leads going (target table statement (machine_of conds old values))
   pub tables : KeepsTables old new
   pub limit : new.limit ≡ old.limit
   pub cond : IsCond conds old.cond → IsCond conds new.cond

@@ -1,7 +1,8 @@
 //! The machine that runs a piece, statement by statement.
-ghost use Rattle.std.specs.Prelude.{◌≡◌, ℕ, ◌+◌, ◌<◌, ◌≤◌, List, [], Option, None, length, IfOk, if◌then◌else◌};
+ghost use Rattle.std.specs.Prelude.{◌≡◌, ℕ, ◌+◌, ◌<◌, ◌≤◌, List, [], Option, None, length, slice_index, IfOk, if◌then◌else◌};
 ghost use Rattle.lx_ccode.specs.declared.piece.CondCase.{CondCase};
 ghost use Rattle.lx_ccode.specs.declared.piece.Stmt.TheVariants as stmt;
+ghost use Rattle.lx_ccode.specs.Machine.{case_block, has_unit, is_among};
 ghost use Rattle.lx_ccode.specs.Runs.{fresh_machine};
 ghost use Rattle.lx_window.specs.Windows.{IsFormed, IsWindowOf, slid};
 ghost use Rattle.lx_step.specs.Conds.{cond_name};
@@ -14,6 +15,7 @@ use crate::histories::Histories;
 use crate::numbers::{Numbering, place_of};
 use crate::units::unit_at;
 use lx_base::Memory;
+use lx_ccode::SwitchCase;
 use lx_window::Window;
 use std::alloc::Global;
 
@@ -110,8 +112,8 @@ impl Scanner {
     pub(crate) fn peek(&mut self, w: &Window<'_>, eof: Option<u32>) -> Going
         requires from { w.now.start ≤ self.old.cursor }
         requires to { self.old.limit ≡ w.now.limit }
-        ensures step { (stream : List ℕ) (conds : List CondCase) → IsFormed w.now × IsWindowOf stream (slid w.now) → IsStep stream eof conds stmt.Peek self.old self.new result }
-        ensures moves { (conds : List CondCase) → Moves conds stmt.Peek self.old self.new result }
+        ensures step { (stream table : List ℕ) (conds : List CondCase) → IsFormed w.now × IsWindowOf stream (slid w.now) → IsStep stream eof table conds stmt.Peek self.old self.new result }
+        ensures moves { (table : List ℕ) (conds : List CondCase) → Moves table conds stmt.Peek self.old self.new result }
     {
         if self.cursor < self.limit {
             self.unit = Some(unit_at(w, self.cursor));
@@ -126,7 +128,7 @@ impl Scanner {
 
     /// Moves the cursor on by one unit.
     pub(crate) fn skip(&mut self) -> Going
-        ensures { (stream : List ℕ) (eof : Option ℕ) (conds : List CondCase) → IsStep stream eof conds stmt.Skip self.old self.new result }
+        ensures { (stream : List ℕ) (eof : Option ℕ) (table : List ℕ) (conds : List CondCase) → IsStep stream eof table conds stmt.Skip self.old self.new result }
     {
         if self.cursor >= self.limit {
             return Going::Ends(Outcome::Stuck);
@@ -137,7 +139,7 @@ impl Scanner {
 
     /// Keeps the cursor in the marker.
     pub(crate) fn backup(&mut self) -> Going
-        ensures { (stream : List ℕ) (eof : Option ℕ) (conds : List CondCase) → IsStep stream eof conds stmt.Backup self.old self.new result }
+        ensures { (stream : List ℕ) (eof : Option ℕ) (table : List ℕ) (conds : List CondCase) → IsStep stream eof table conds stmt.Backup self.old self.new result }
     {
         self.marker = self.cursor;
         Going::Next
@@ -145,7 +147,7 @@ impl Scanner {
 
     /// Moves the cursor to the marker.
     pub(crate) fn restore(&mut self) -> Going
-        ensures { (stream : List ℕ) (eof : Option ℕ) (conds : List CondCase) → IsStep stream eof conds stmt.Restore self.old self.new result }
+        ensures { (stream : List ℕ) (eof : Option ℕ) (table : List ℕ) (conds : List CondCase) → IsStep stream eof table conds stmt.Restore self.old self.new result }
     {
         self.cursor = self.marker;
         Going::Next
@@ -153,7 +155,7 @@ impl Scanner {
 
     /// Keeps an accepting state.
     pub(crate) fn accept(&mut self, accept: u32) -> Going
-        ensures { (stream : List ℕ) (eof : Option ℕ) (conds : List CondCase) → IsStep stream eof conds (stmt.Accept accept) self.old self.new result }
+        ensures { (stream : List ℕ) (eof : Option ℕ) (table : List ℕ) (conds : List CondCase) → IsStep stream eof table conds (stmt.Accept accept) self.old self.new result }
     {
         self.accept = accept;
         Going::Next
@@ -161,7 +163,7 @@ impl Scanner {
 
     /// Keeps a state.
     pub(crate) fn state(&mut self, state: u64) -> Going
-        ensures { (stream : List ℕ) (eof : Option ℕ) (conds : List CondCase) → IsStep stream eof conds (stmt.State state) self.old self.new result }
+        ensures { (stream : List ℕ) (eof : Option ℕ) (table : List ℕ) (conds : List CondCase) → IsStep stream eof table conds (stmt.State state) self.old self.new result }
     {
         self.state = Some(state);
         Going::Next
@@ -201,7 +203,7 @@ impl Scanner {
     /// Puts the cursor into a register.
     pub(crate) fn set(&mut self, register: u32) -> Going
         requires { place_of self.old.numbering.registers.keys register < length self.old.registers.items }
-        ensures { (stream : List ℕ) (eof : Option ℕ) (conds : List CondCase) → IsStep stream eof conds (stmt.Set register) self.old self.new result }
+        ensures { (stream : List ℕ) (eof : Option ℕ) (table : List ℕ) (conds : List CondCase) → IsStep stream eof table conds (stmt.Set register) self.old self.new result }
     {
         self.set_register(register, Some(self.cursor));
         Going::Next
@@ -210,7 +212,7 @@ impl Scanner {
     /// Empties a register.
     pub(crate) fn unset(&mut self, register: u32) -> Going
         requires { place_of self.old.numbering.registers.keys register < length self.old.registers.items }
-        ensures { (stream : List ℕ) (eof : Option ℕ) (conds : List CondCase) → IsStep stream eof conds (stmt.Unset register) self.old self.new result }
+        ensures { (stream : List ℕ) (eof : Option ℕ) (table : List ℕ) (conds : List CondCase) → IsStep stream eof table conds (stmt.Unset register) self.old self.new result }
     {
         self.set_register(register, None);
         Going::Next
@@ -220,7 +222,7 @@ impl Scanner {
     pub(crate) fn copy(&mut self, register: u32, source: u32) -> Going
         requires register { place_of self.old.numbering.registers.keys register < length self.old.registers.items }
         requires source { place_of self.old.numbering.registers.keys source < length self.old.registers.items }
-        ensures { (stream : List ℕ) (eof : Option ℕ) (conds : List CondCase) → IsStep stream eof conds (stmt.Copy register source) self.old self.new result }
+        ensures { (stream : List ℕ) (eof : Option ℕ) (table : List ℕ) (conds : List CondCase) → IsStep stream eof table conds (stmt.Copy register source) self.old self.new result }
     {
         let value = self.content(source);
         self.set_register(register, value);
@@ -230,7 +232,7 @@ impl Scanner {
     /// Moves the cursor back to a register.
     pub(crate) fn back(&mut self, register: u32) -> Going
         requires { place_of self.old.numbering.registers.keys register < length self.old.registers.items }
-        ensures { (stream : List ℕ) (eof : Option ℕ) (conds : List CondCase) → IsStep stream eof conds (stmt.Back register) self.old self.new result }
+        ensures { (stream : List ℕ) (eof : Option ℕ) (table : List ℕ) (conds : List CondCase) → IsStep stream eof table conds (stmt.Back register) self.old self.new result }
     {
         match self.content(register) {
             None => Going::Ends(Outcome::Stuck),
@@ -244,7 +246,7 @@ impl Scanner {
     /// Appends the cursor to a history.
     pub(crate) fn append(&mut self, history: u32) -> Result<Going, Memory>
         requires { place_of self.old.numbering.histories.keys history < length self.old.histories }
-        ensures step { IfOk result (λ going. (stream : List ℕ) (eof : Option ℕ) (conds : List CondCase) → IsStep stream eof conds (stmt.MSet history) self.old self.new going) }
+        ensures step { IfOk result (λ going. (stream : List ℕ) (eof : Option ℕ) (table : List ℕ) (conds : List CondCase) → IsStep stream eof table conds (stmt.MSet history) self.old self.new going) }
         ensures tables { KeepsTables self.old self.new }
         ensures cond { self.new.cond ≡ self.old.cond }
     {
@@ -259,7 +261,7 @@ impl Scanner {
     /// Appends a negative event to a history.
     pub(crate) fn append_none(&mut self, history: u32) -> Result<Going, Memory>
         requires { place_of self.old.numbering.histories.keys history < length self.old.histories }
-        ensures step { IfOk result (λ going. (stream : List ℕ) (eof : Option ℕ) (conds : List CondCase) → IsStep stream eof conds (stmt.MUnset history) self.old self.new going) }
+        ensures step { IfOk result (λ going. (stream : List ℕ) (eof : Option ℕ) (table : List ℕ) (conds : List CondCase) → IsStep stream eof table conds (stmt.MUnset history) self.old self.new going) }
         ensures tables { KeepsTables self.old self.new }
         ensures cond { self.new.cond ≡ self.old.cond }
     {
@@ -275,7 +277,7 @@ impl Scanner {
     pub(crate) fn copy_history(&mut self, history: u32, source: u32) -> Going
         requires history { place_of self.old.numbering.histories.keys history < length self.old.histories }
         requires source { place_of self.old.numbering.histories.keys source < length self.old.histories }
-        ensures { (stream : List ℕ) (eof : Option ℕ) (conds : List CondCase) → IsStep stream eof conds (stmt.MCopy history source) self.old self.new result }
+        ensures { (stream : List ℕ) (eof : Option ℕ) (table : List ℕ) (conds : List CondCase) → IsStep stream eof table conds (stmt.MCopy history source) self.old self.new result }
     {
         if history == 0 {
             return Going::Ends(Outcome::Stuck);
@@ -288,7 +290,7 @@ impl Scanner {
 
     /// Tests the unit that was read last.
     pub(crate) fn if_unit(&self, greatest: u32, block: u64) -> Going
-        ensures { (stream : List ℕ) (eof : Option ℕ) (conds : List CondCase) → IsStep stream eof conds (stmt.IfUnit greatest block) self.now self.now result }
+        ensures { (stream : List ℕ) (eof : Option ℕ) (table : List ℕ) (conds : List CondCase) → IsStep stream eof table conds (stmt.IfUnit greatest block) self.now self.now result }
     {
         match self.unit {
             None => Going::Ends(Outcome::Stuck),
@@ -296,19 +298,92 @@ impl Scanner {
         }
     }
 
+    /// Tests whether the unit that was read last is this one.
+    pub(crate) fn if_is(&self, unit: u32, block: u64) -> Going
+        ensures { (stream : List ℕ) (eof : Option ℕ) (table : List ℕ) (conds : List CondCase) → IsStep stream eof table conds (stmt.IfIs unit block) self.now self.now result }
+    {
+        match self.unit {
+            None => Going::Ends(Outcome::Stuck),
+            Some(read) => jump_where(read == unit, block),
+        }
+    }
+
+    /// Tests whether the unit that was read last is in a set of the table.
+    pub(crate) fn if_set(&self, table: &[u8], set: u32, block: u64) -> Going
+        ensures { (stream : List ℕ) (eof : Option ℕ) (conds : List CondCase) → IsStep stream eof table.now conds (stmt.IfSet set block) self.now self.now result }
+    {
+        match self.unit {
+            None => Going::Ends(Outcome::Stuck),
+            Some(unit) => jump_where(is_among(table, set, unit), block),
+        }
+    }
+
+    /// Goes to the block of the case that has the unit that was read last, or else to the last block.
+    pub(crate) fn switch(&self, cases: &[SwitchCase], last: u64) -> Going
+        ensures { (stream : List ℕ) (eof : Option ℕ) (table : List ℕ) (conds : List CondCase) → IsStep stream eof table conds (stmt.Switch cases.now last) self.now self.now result }
+    {
+        match self.unit {
+            None => Going::Ends(Outcome::Stuck),
+            Some(unit) => Going::To(case_block(cases, last, unit)),
+        }
+    }
+
     /// Tests the accepting state that was kept last.
     pub(crate) fn if_accept(&self, accept: u32, block: u64) -> Going
-        ensures { (stream : List ℕ) (eof : Option ℕ) (conds : List CondCase) → IsStep stream eof conds (stmt.IfAccept accept block) self.now self.now result }
+        ensures { (stream : List ℕ) (eof : Option ℕ) (table : List ℕ) (conds : List CondCase) → IsStep stream eof table conds (stmt.IfAccept accept block) self.now self.now result }
     {
         jump_where(self.accept == accept, block)
     }
 
     /// Tests whether no unit is left.
     pub(crate) fn if_end(&self, block: u64) -> Going
-        ensures { (stream : List ℕ) (eof : Option ℕ) (conds : List CondCase) → IsStep stream eof conds (stmt.IfEnd block) self.now self.now result }
+        ensures { (stream : List ℕ) (eof : Option ℕ) (table : List ℕ) (conds : List CondCase) → IsStep stream eof table conds (stmt.IfEnd block) self.now self.now result }
     {
         jump_where(self.limit <= self.cursor, block)
     }
+}
+
+/// Whether the unit is in a set of the table.
+fn is_among(table: &[u8], set: u32, unit: u32) -> bool
+    ensures { result ≡ is_among table.now set unit }
+{
+    if unit > 0xFF {
+        return false;
+    }
+    let place = 256 * u64::from(set / 8) + u64::from(unit);
+    (byte_at(table, place) >> (set % 8)) % 2 == 1
+}
+
+/// The byte at a place, or 0 behind the end.
+fn byte_at(table: &[u8], place: u64) -> u8
+    ensures { result ≡ slice_index table.now place }
+{
+    let place = place as usize;
+    if place < table.len() { table[place] } else { 0 }
+}
+
+/// The block of the first case that has the unit, or else the last block.
+fn case_block(cases: &[SwitchCase], last: u64, unit: u32) -> u64
+    ensures { result ≡ case_block cases.now last unit }
+{
+    for case in cases {
+        if has_unit(case.units.as_slice(), unit) {
+            return case.block;
+        }
+    }
+    last
+}
+
+/// Whether the unit stands in the list.
+fn has_unit(units: &[u8], unit: u32) -> bool
+    ensures { result ≡ has_unit units.now unit }
+{
+    for other in units {
+        if u32::from(*other) == unit {
+            return true;
+        }
+    }
+    false
 }
 
 /// To the block where the test holds, else to the next statement.

@@ -39,8 +39,8 @@ pub(crate) fn step(
     requires tags { AreTags names.piece.now.blocks names.tags.now }
     requires from { w.now.start ≤ scanner.old.cursor }
     requires to { scanner.old.limit ≡ w.now.limit }
-    ensures step { IfOk result (λ going. (stream : List ℕ) → IsFormed w.now × IsWindowOf stream (slid w.now) → IsStep stream names.entry.piece.now.eof names.entry.piece.now.conds stmt.now scanner.old scanner.new going) }
-    ensures moves { IfOk result (λ going. Moves names.entry.piece.now.conds stmt.now scanner.old scanner.new going) }
+    ensures step { IfOk result (λ going. (stream : List ℕ) → IsFormed w.now × IsWindowOf stream (slid w.now) → IsStep stream names.entry.piece.now.eof names.entry.piece.now.table names.entry.piece.now.conds stmt.now scanner.old scanner.new going) }
+    ensures moves { IfOk result (λ going. Moves names.entry.piece.now.table names.entry.piece.now.conds stmt.now scanner.old scanner.new going) }
     ensures given { IfOk result (λ going. slots.new ≡ given_after (tag_names names.entry.piece.now.blocks) stmt.now (machine_of names.entry.piece.now.conds scanner.old []) slots.old) }
     ensures tables { KeepsTables scanner.old scanner.new }
     ensures cond { IsCond names.entry.piece.now.conds scanner.old.cond → IsCond names.entry.piece.now.conds scanner.new.cond }
@@ -61,6 +61,10 @@ pub(crate) fn step(
         Stmt::MUnset(history) => scanner.append_none(*history),
         Stmt::MCopy(history, source) => Ok(scanner.copy_history(*history, *source)),
         Stmt::IfUnit(greatest, block) => Ok(scanner.if_unit(*greatest, *block)),
+        Stmt::IfIs(unit, block) => Ok(scanner.if_is(*unit, *block)),
+        Stmt::IfSet(set, block) => {
+            Ok(scanner.if_set(names.piece.table.as_slice(), *set, *block))
+        }
         Stmt::IfAccept(accept, block) => Ok(scanner.if_accept(*accept, *block)),
         Stmt::IfEnd(block) => Ok(scanner.if_end(*block)),
         Stmt::State(state) => Ok(scanner.state(*state)),
@@ -78,6 +82,7 @@ pub(crate) fn step(
         Stmt::Count(groups) => Ok(scanner.count(slots, *groups)),
         Stmt::End(place, register) => Ok(scanner.set_end(slots, *place, *register)),
         Stmt::Back(register) => Ok(scanner.back(*register)),
+        Stmt::Switch(cases, last) => Ok(scanner.switch(cases.as_slice(), *last)),
         Stmt::Goto(block) => Ok(Going::To(*block)),
         Stmt::Leave => Ok(Going::Ends(Outcome::NoRule)),
         Stmt::Code(rule, _, _) => Ok(Going::Ends(Outcome::Rule { number: *rule })),

@@ -15,6 +15,7 @@ use Rattle.lx_compile.specs.declared.made.Made.{Made}
 use Rattle.lx_files.specs.declared.files.HeldFile.{HeldFile}
 use Rattle.lx_files.specs.Held.{bytes_of, Sees}
 use Rattle.lx_base.specs.Places.{next_place, place_after, file_start}
+use Rattle.lx_ccode.specs.declared.piece.LineMark.{LineMark}
 use Rattle.lx_ccode.specs.declared.piece.Piece.{Piece}
 use Rattle.lx_ccode.specs.Front.{BeginsWithPiece}
 use Rattle.lx_ccode.proofs.RoundTrip.{piece_at-front}
@@ -66,7 +67,7 @@ IsFirstBegin-unique block bytes offset other first second = elim (cases_lt offse
 ]
 
 BeginsWithPiece-unique : (bytes : List ℕ) (piece other : Piece) → BeginsWithPiece bytes piece → BeginsWithPiece bytes other → piece ≡ other
-BeginsWithPiece-unique bytes piece other first second = ap (λ (read : Piece × List ℕ). read.0) (sym (piece_at-front bytes piece first) ∙ piece_at-front bytes other second)
+BeginsWithPiece-unique bytes piece other first second = ap (λ (read : Piece × Option LineMark × List ℕ). read.0) (sym (piece_at-front bytes piece first) ∙ piece_at-front bytes other second)
 
 IsUnread-unique : (bytes : List ℕ) (block : Option ℕ) (offset other : ℕ) → IsUnread bytes block offset → IsUnread bytes block other → offset ≡ other
 IsUnread-unique bytes block offset other (inl first) (inl second) = first.1 ∙ sym second.1

@@ -35,7 +35,7 @@ module _ (rules : ℕ) (all : List Made) (output : List ℕ) (few : rules ≤ 20
   scans_one = record {
     offset = found_one.offset;
     first = found_one.first_scanner tt refl;
-    begins = record { valid = made_one.valid; rest = found_one.rest; text = found_one.stands };
+    begins = record { valid = made_one.valid; place = None; placed = made_one.placed; rest = found_one.rest; text = found_one.stands };
   }
 
   -- so one is read, whose units are bytes

@@ -124,11 +124,11 @@ module _ (piece : Piece) (stream : List ℕ) (answers : List Answer) where
           → Walks piece stream 0 (IfUnit greatest block ∷ tree_code next high) machine answers to machine
       by true low has again =
           walk_step piece stream (IfUnit greatest block) refl refl
-          (test_holds piece stream (tree_code next high) machine answers unit read greatest block to low has)
+          (test_holds piece stream (tree_code next high) machine answers unit read (λ other. nat_le other greatest) block to low has)
       by false above has again =
           walk_on piece stream
           (walk_step piece stream (IfUnit greatest block) refl refl
-          (test_fails piece stream (tree_code next high) machine answers unit read greatest block above))
+          (test_fails piece stream (tree_code next high) machine answers unit read (λ other. nat_le other greatest) block above))
           (again has)
   tree_walk (fork greatest low high) next unit to machine read stands has =
       by (nat_le unit greatest) refl has (tree_walk low (suc next) unit to machine read low_stands)
@@ -159,12 +159,12 @@ module _ (piece : Piece) (stream : List ℕ) (answers : List Answer) where
       by true holds has again_low again_high =
           walk_on piece stream
           (walk_step piece stream (IfUnit greatest next) refl refl
-          (test_holds piece stream (tree_code behind high) machine answers unit read greatest next (tree_code (suc next) low) holds stands.0))
+          (test_holds piece stream (tree_code behind high) machine answers unit read (λ other. nat_le other greatest) next (tree_code (suc next) low) holds stands.0))
           (again_low has)
       by false fails has again_low again_high =
           walk_on piece stream
           (walk_step piece stream (IfUnit greatest next) refl refl
-          (test_fails piece stream (tree_code behind high) machine answers unit read greatest next fails))
+          (test_fails piece stream (tree_code behind high) machine answers unit read (λ other. nat_le other greatest) next fails))
           (again_high has)
 
   -- ---- checks

@@ -1,15 +1,14 @@
 -- Each block of scanners one behind another ends once, and jumps to a block of its own scanner.
-use Rattle.std.specs.Prelude.{◌≡◌, ℕ, suc, ◌+◌, ◌≤◌, List, [], ◌∷◌, length, Option, None, true, refl}
+use Rattle.std.specs.Prelude.{◌≡◌, ℕ, suc, ◌+◌, ◌<◌, ◌≤◌, List, [], ◌∷◌, length, Option, None, true, refl}
 use Rattle.std.proofs.Common.{arith, length-append, subst, sym}
 use Rattle.std.proofs.lemmas.List.{length-map}
 use Rattle.std.specs.List.{AllByRecursion}
 use Rattle.lx_auto.specs.declared.automaton.Auto.{Auto}
 use Rattle.lx_auto.specs.declared.automaton.State.{State}
-use Rattle.lx_ccode.specs.Statements.{all_statements}
+use Rattle.lx_ccode.specs.Statements.{all_statements, targets}
 use Rattle.lx_ccode.specs.Validity.{JumpsBelow, ends_once}
 use Rattle.lx_ccode.specs.declared.piece.CodeBlock.{CodeBlock}
 use Rattle.lx_ccode.specs.declared.piece.Stmt.{Stmt}
-use Rattle.lx_ccode.specs.declared.piece.Stmt.TheVariants.{Goto, IfAccept, IfEnd, IfUnit, Try}
 use Rattle.lx_layout.specs.FormedParts.{AreFormed}
 use Rattle.lx_layout.specs.Parts.{EachPart, Part, given_asked, given_supply, labelled, part_blocks, part_codes, parts_blocks}
 use Rattle.lx_layout.specs.Plans.{unlabelled}
@@ -52,12 +51,8 @@ trees_within eof greatest trees auto are =
 
 -- a jump below a number, where it is one to some blocks below it
 jump_below : (low high count : ℕ) (statement : Stmt) → high ≤ count → JumpsWithin low high statement → JumpsBelow count statement
-jump_below low high count (IfUnit greatest block) le h = omega (arith, le, h.1)
-jump_below low high count (IfAccept accept block) le h = omega (arith, le, h.1)
-jump_below low high count (IfEnd block) le h = omega (arith, le, h.1)
-jump_below low high count (Try block) le h = omega (arith, le, h.1)
-jump_below low high count (Goto block) le h = omega (arith, le, h.1)
-jump_below low high count _ le h = tt
+jump_below low high count statement le h =
+    each-map (λ block. (low ≤ block) × (block < high)) (λ block. block < count) (λ block within. omega (arith, le, within.1)) (targets statement) h
 
 parts_jump : (greatest count begin first : ℕ) (parts : List Part) → AreFormed greatest parts
     → begin + length (parts_blocks begin first parts) ≤ count

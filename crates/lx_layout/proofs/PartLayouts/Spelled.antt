@@ -15,7 +15,7 @@ use Rattle.lx_base.specs.Letters.{IsIdentifier, equal_words}
 use Rattle.lx_base.specs.Names.{Spellings, IsTagName}
 use Rattle.lx_ccode.specs.Validity.{IsLine, IsLong, IsRegister, IsShort}
 use Rattle.lx_ccode.specs.declared.piece.Stmt.{Stmt}
-use Rattle.lx_ccode.specs.declared.piece.Stmt.TheVariants.{Accept as SaveAccept, Back, Code, Cond, Copy, Count, End, IfAccept, IfUnit, Jump, MCopy, MSet, MUnset, Need, Set, State as Store, Tag, Unset}
+use Rattle.lx_ccode.specs.declared.piece.Stmt.TheVariants.{Accept as SaveAccept, Back, Code, Cond, Copy, Count, End, IfAccept, IfIs, IfSet, IfUnit, Jump, MCopy, MSet, MUnset, Need, Set, State as Store, Switch, Tag, Unset}
 use Rattle.lx_layout.specs.Codes.{op_code}
 use Rattle.lx_layout.specs.Endings.{Ending, action_code, cond_code, ending_code, last_code, name_or_none, tag_code}
 use Rattle.lx_layout.specs.FormedParts.{IsFormed}
@@ -34,7 +34,7 @@ use Rattle.lx_layout.proofs.PartLayouts.StatementSorts.{PlainStatements, ReaderS
 abbrev pub HasRoom : ℕ → Type 0
 HasRoom history = IsShort (history + 1)
 
--- the statement has a spelling if its block has one; it has few groups, and its condition is one of these
+-- the statement has a spelling if its block has one; it has few groups, its condition is one of these, and it is not of format 3
 abbrev pub IsSpellable : Spellings → (conds : List (List ℕ)) → Stmt → Type 0
 IsSpellable names conds (SaveAccept accept) = IsShort accept
 IsSpellable names conds (Set register) = IsRegister register
@@ -44,6 +44,8 @@ IsSpellable names conds (MSet history) = HasRoom history
 IsSpellable names conds (MUnset history) = HasRoom history
 IsSpellable names conds (MCopy history source) = HasRoom history × HasRoom source
 IsSpellable names conds (IfUnit greatest block) = IsShort greatest
+IsSpellable names conds (IfIs unit block) = ⊥
+IsSpellable names conds (IfSet set block) = ⊥
 IsSpellable names conds (IfAccept accept block) = IsShort accept
 IsSpellable names conds (Store number) = IsLong number
 IsSpellable names conds (Need units) = IsShort units
@@ -53,6 +55,7 @@ IsSpellable names conds (Tag tag false register) = IsTagName names tag × IsRegi
 IsSpellable names conds (Count groups) = groups ≤ 65
 IsSpellable names conds (End place register) = (place ≤ 129) × IsRegister register
 IsSpellable names conds (Back register) = IsRegister register
+IsSpellable names conds (Switch cases last) = ⊥
 IsSpellable names conds (Code rule line action) = IsShort rule × IsLine line × IsShort (length action)
 IsSpellable names conds (Jump cond rule) = (IsIdentifier cond × (list_any (equal_words cond) conds ≡ true)) × IsShort rule
 IsSpellable names conds _ = Unit {0}

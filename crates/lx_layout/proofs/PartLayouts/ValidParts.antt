@@ -12,11 +12,11 @@ use Rattle.lx_base.specs.Spelling.{greatest_unit}
 use Rattle.lx_base.specs.declared.settings.Enc.{Enc}
 use Rattle.lx_base.specs.declared.settings.Enc.TheVariants.{Byte, Ucs2, Utf8, Utf16, Utf32}
 use Rattle.lx_ccode.specs.Agreement.{Agrees, keeps_mode}
-use Rattle.lx_ccode.specs.Counts.{is_peek, state_count}
-use Rattle.lx_ccode.specs.Heads.{is_custom}
+use Rattle.lx_ccode.specs.Counts.{is_peek, state_count, table_size}
+use Rattle.lx_ccode.specs.Heads.{is_custom, is_three}
 use Rattle.lx_ccode.specs.States.{states_from}
-use Rattle.lx_ccode.specs.Statements.{all_statements, has_register_one, is_need, is_state, is_try, statement_count}
-use Rattle.lx_ccode.specs.Validity.{AreAscending, AreOnce, EachBlockHasSpelling, HasFewGroups, IsLine, IsLong, IsShort, IsStateSwitch, IsValid, NamesOneOf, ends_once, label_of, labels, states_before_refills}
+use Rattle.lx_ccode.specs.Statements.{all_statements, has_register_one, is_need, is_of_three, is_state, is_switch, is_try, statement_count}
+use Rattle.lx_ccode.specs.Validity.{AreAscending, AreOnce, EachBlockHasSpelling, HasFewGroups, IsByte, IsLine, IsLong, IsShort, IsStateSwitch, IsValid, NamesOneOf, ends_once, label_of, labels, states_before_refills}
 use Rattle.lx_ccode.specs.declared.piece.CodeBlock.{CodeBlock}
 use Rattle.lx_ccode.specs.declared.piece.CondCase.{CondCase}
 use Rattle.lx_ccode.specs.declared.piece.Head.{Head}
@@ -33,6 +33,7 @@ use Rattle.lx_layout.specs.Writable.{PartsCanBeWritten}
 use Rattle.lx_layout.proofs.PartLayouts.AskingParts.{needs_none, peeks_need, peeks_try, refills_after, states_before, tries_none}
 use Rattle.lx_layout.proofs.PartLayouts.ClosedParts.{all_end, all_jump, length-parts}
 use Rattle.lx_layout.proofs.PartLayouts.LastBlocks.{last_tries_none}
+use Rattle.lx_layout.proofs.PartLayouts.OfFormatTwo.{no_groups, no_switches, none_of_three}
 use Rattle.lx_layout.proofs.PartLayouts.PartBlocks.{OfBlocks, of_statements}
 use Rattle.lx_layout.proofs.PartLayouts.PartOrder.{parts_begin, parts_labelled, some_block}
 use Rattle.lx_layout.proofs.PartLayouts.PartStates.{no_states, nothing_stored, states_ascend, states_numbered, states_once}
@@ -246,6 +247,21 @@ module _ (custom : Bool) (enc : Enc) (mode : Mode) (stores : Bool) (first : ℕ)
       by (inl none) = subst (λ o. IfSome o P) (sym none) tt
       by (inr some) = subst (λ o. IfSome o P) (sym some) h
 
+  -- ---- the format
+
+  none_three : list_any is_of_three (all_statements piece.blocks) ≡ false
+  none_three = none_of_three piece.names (conds_of parts) (all_statements piece.blocks) statements_fine
+
+  none_switch : list_any is_switch (all_statements piece.blocks) ≡ false
+  none_switch = no_switches piece.names (conds_of parts) (all_statements piece.blocks) statements_fine
+
+  table_fits : length piece.table ≡ table_size piece.blocks
+  table_fits =
+      ap (λ l. length l) is.table ∙ ap (λ n. 256 * n) (sym (no_groups piece.names (conds_of parts) (all_statements piece.blocks) statements_fine))
+
+  is_two : is_three piece.head ≡ false
+  is_two = ap is_three is.head
+
   -- ---- the whole
 
   agrees : Agrees piece (head_with custom enc mode piece.blocks)
@@ -269,6 +285,7 @@ module _ (custom : Bool) (enc : Enc) (mode : Mode) (stores : Bool) (first : ℕ)
       conds = conds_long;
       head = subst (λ (o : Option Head). IfSome o (λ head. IsShort head.regs × IsShort head.mregs × IsLong head.states)) (sym is.head)
           (regs_short piece.names (conds_of parts) piece.blocks statements_fine, mregs_short piece.names (conds_of parts) piece.blocks statements_fine, count_long);
+      table = subst (λ l. AllByRecursion IsByte l) (sym is.table) tt;
     };
     unit = subst (λ n. (n ≡ 1) ⊎ ((n ≡ 2) ⊎ (n ≡ 4))) (sym is.unit) (size_is enc);
     eof = eof;
@@ -292,6 +309,12 @@ module _ (custom : Bool) (enc : Enc) (mode : Mode) (stores : Bool) (first : ℕ)
     names = allowed;
     names_differ = differ;
     no_primitive = λ e. free (sym (ap is_custom is.head) ∙ e);
+    of_three = λ e. absurd (false≢true (sym none_three ∙ e));
+    switches = λ e. absurd (false≢true (sym none_switch ∙ e));
+    table = table_fits;
+    no_table = λ e. absurd (false≢true (sym is_two ∙ e));
+    no_table_tag = λ e. absurd (false≢true (sym is_two ∙ e));
+    no_block_label = λ e. absurd (false≢true (sym is_two ∙ e));
     head = subst (λ (o : Option Head). IfSome o (Agrees piece)) (sym is.head) agrees;
     spelled = are_written.0;
   }

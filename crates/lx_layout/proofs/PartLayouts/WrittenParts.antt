@@ -9,7 +9,7 @@ use Rattle.lx_ccode.specs.Statements.{all_statements}
 use Rattle.lx_ccode.specs.Validity.{EachBlockHasSpelling, EachHasSpelling, HasFewGroups, HasSpelling, IsLabel, IsLong, IsShort, JumpsBelow, NamesOneOf, ends_once}
 use Rattle.lx_ccode.specs.declared.piece.CodeBlock.{CodeBlock}
 use Rattle.lx_ccode.specs.declared.piece.Stmt.{Stmt}
-use Rattle.lx_ccode.specs.declared.piece.Stmt.TheVariants.{Accept as SaveAccept, Back, Backup, Code, Cond, Copy, Count, End, Goto, IfAccept, IfEnd, IfUnit, Jump, Leave, MCopy, MSet, MUnset, Need, Peek, Restore, Set, Skip, State as Store, Tag, Try, Unset}
+use Rattle.lx_ccode.specs.declared.piece.Stmt.TheVariants.{Accept as SaveAccept, Back, Backup, Code, Cond, Copy, Count, End, Goto, IfAccept, IfEnd, IfIs, IfSet, IfUnit, Jump, Leave, MCopy, MSet, MUnset, Need, Peek, Restore, Set, Skip, State as Store, Switch, Tag, Try, Unset}
 use Rattle.lx_layout.specs.FormedParts.{AreFormed, all_asked}
 use Rattle.lx_layout.specs.Parts.{EachPart, Part, given_asked, labelled, part_blocks, part_codes, parts_blocks}
 use Rattle.lx_layout.specs.Plans.{unlabelled}
@@ -50,14 +50,17 @@ module _ (names : Spellings) (conds : List (List ℕ)) where
   spelled count (MSet history) small fine below = omega (arith, fine)
   spelled count (MUnset history) small fine below = omega (arith, fine)
   spelled count (MCopy history source) small fine below = (omega (arith, fine.0), omega (arith, fine.1))
-  spelled count (IfUnit greatest block) small fine below = (fine, omega (arith, below, small))
-  spelled count (IfAccept accept block) small fine below = (fine, omega (arith, below, small))
-  spelled count (IfEnd block) small fine below = omega (arith, below, small)
+  spelled count (IfUnit greatest block) small fine below = (fine, omega (arith, below.0, small))
+  spelled count (IfIs unit block) small fine below = absurd fine
+  spelled count (IfSet set block) small fine below = absurd fine
+  spelled count (IfAccept accept block) small fine below = (fine, omega (arith, below.0, small))
+  spelled count (IfEnd block) small fine below = omega (arith, below.0, small)
   spelled count (Store number) small fine below = fine
   spelled count (Need units) small fine below = fine
-  spelled count (Try block) small fine below = omega (arith, below, small)
+  spelled count (Try block) small fine below = omega (arith, below.0, small)
   spelled count (Cond cond) small fine below = fine.0
-  spelled count (Goto block) small fine below = omega (arith, below, small)
+  spelled count (Switch cases last) small fine below = absurd fine
+  spelled count (Goto block) small fine below = omega (arith, below.0, small)
   spelled count (Tag tag true history) small fine below = (fine.0, omega (arith, fine.1))
   spelled count (Tag tag false register) small fine below = fine
   spelled count (Count groups) small fine below = omega (arith, fine)

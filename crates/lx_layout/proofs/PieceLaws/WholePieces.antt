@@ -118,6 +118,7 @@ module _ (form : Form) (given : List Source) (parts : List Part) (piece : Piece)
     eof = all_eof form (conds_of scanners) piece.eof fields.eof scanners parts each are;
     states = by piece.states refl states;
     conds = cases;
+    table = fields.table;
   }
     where
       by : (o : Option (List StateCase)) → piece.states ≡ o → IfSome o (λ cases. cases ≡ states_from 0 piece.blocks)

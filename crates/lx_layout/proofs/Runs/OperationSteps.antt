@@ -8,7 +8,8 @@ use Rattle.lx_auto.specs.declared.ops.Op.TheVariants.{Here, Null, Copy, MHere, M
 use Rattle.lx_ccode.specs.declared.piece.Stmt.{Stmt}
 use Rattle.lx_ccode.specs.declared.piece.Stmt.TheVariants.{IfUnit}
 use Rattle.lx_ccode.specs.declared.piece.Piece.{Piece}
-use Rattle.lx_ccode.specs.Machine.{Machine, Value, Answer, goes_on, step, jump, choose, if_unit, updated, code_at}
+use Rattle.lx_ccode.specs.Machine.{Machine, Value, Answer, goes_on, step, jump, updated}
+use Rattle.lx_ccode.proofs.TraceSteps.{test_fails, test_holds}
 use Rattle.lx_ccode.specs.Statements.{code_of}
 use Rattle.lx_sequence.specs.Turns.{after_op, after_ops}
 use Rattle.lx_layout.specs.Codes.{save_code, op_code, ops_code}
@@ -119,15 +120,13 @@ module _ (p : Piece) (x : List ℕ) (start : ℕ) where
         → LeadsIn p x start 1 (IfUnit greatest block ∷ rest) m q to m q
     holds_in to h et =
         let s : step p x (IfUnit greatest block) rest m q ≡ goes_on to m q =
-        ap (λ v. if_unit v greatest (code_at p.blocks (Some block)) rest m q) read
-        ∙ ap (λ b. choose b (code_at p.blocks (Some block)) rest m q) h ∙ ap (λ o. jump o m q) et in
+        test_holds p x rest m q unit read (λ other. nat_le other greatest) block to h et in
         step_in p x start s (omega arith)
 
     fails_in : nat_le unit greatest ≡ false → LeadsIn p x start 1 (IfUnit greatest block ∷ rest) m q rest m q
     fails_in h =
         let s : step p x (IfUnit greatest block) rest m q ≡ goes_on rest m q =
-        ap (λ v. if_unit v greatest (code_at p.blocks (Some block)) rest m q) read
-        ∙ ap (λ b. choose b (code_at p.blocks (Some block)) rest m q) h in
+        test_fails p x rest m q unit read (λ other. nat_le other greatest) block h in
         step_in p x start s (omega arith)
 
   -- the tests of a unit lead to the block that they pick, in no more steps than they have statements

@@ -76,10 +76,10 @@ module _ (piece : Piece) (stream : List ℕ) (answers : List Answer) where
             → Tests (IfUnit greatest block ∷ tree_code next high) machine (suc (depth high)) to
         by true e at again =
             tested (IfUnit greatest block) (tree_code next high) to 0 (suc (depth high))
-            (test_holds piece stream (tree_code next high) machine answers unit read greatest block to e at) (there 0) (omega arith)
+            (test_holds piece stream (tree_code next high) machine answers unit read (λ other. nat_le other greatest) block to e at) (there 0) (omega arith)
         by false e at again =
             tested (IfUnit greatest block) (tree_code next high) (tree_code next high) (depth high) (suc (depth high))
-            (test_fails piece stream (tree_code next high) machine answers unit read greatest block e) (again at) (omega arith)
+            (test_fails piece stream (tree_code next high) machine answers unit read (λ other. nat_le other greatest) block e) (again at) (omega arith)
     tree_tests (fork greatest low high) next stands at =
         by (nat_le unit greatest) refl at (tree_tests low (suc next) low_stands) (tree_tests high (suc next + inner_size low) high_stands)
       where
@@ -104,12 +104,12 @@ module _ (piece : Piece) (stream : List ℕ) (answers : List Answer) where
             → Tests (IfUnit greatest next ∷ tree_code (suc next + inner_size low) high) machine (suc (max (depth low) (depth high))) to
         by true e at again_low again_high =
             tested (IfUnit greatest next) (tree_code (suc next + inner_size low) high) (tree_code (suc next) low) (depth low) (suc (max (depth low) (depth high)))
-            (test_holds piece stream (tree_code (suc next + inner_size low) high) machine answers unit read greatest next (tree_code (suc next) low) e stands.0)
+            (test_holds piece stream (tree_code (suc next + inner_size low) high) machine answers unit read (λ other. nat_le other greatest) next (tree_code (suc next) low) e stands.0)
             (again_low at) (omega arith)
         by false e at again_low again_high =
             tested (IfUnit greatest next) (tree_code (suc next + inner_size low) high) (tree_code (suc next + inner_size low) high) (depth high)
             (suc (max (depth low) (depth high)))
-            (test_fails piece stream (tree_code (suc next + inner_size low) high) machine answers unit read greatest next e) (again_high at) (omega arith)
+            (test_fails piece stream (tree_code (suc next + inner_size low) high) machine answers unit read (λ other. nat_le other greatest) next e) (again_high at) (omega arith)
 
 pub tree_comes : (piece : Piece) (stream : List ℕ) (tree : TestTree ℕ) (next unit : ℕ) (to : List Stmt) (machine : Machine) (answers : List Answer)
     → StandsFrom (code_of piece.blocks) next (inner_blocks next tree)

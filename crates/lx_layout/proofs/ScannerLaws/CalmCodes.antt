@@ -1,5 +1,5 @@
 -- Of the code of each sort that no unit is tested in it before one is read, where it leads to blocks of which that holds.
-use Rattle.std.specs.Prelude.{◌≡◌, ◌≢◌, ℕ, zero, suc, Bool, true, false, List, [], ◌∷◌, Option, Some, None, refl, slice_get}
+use Rattle.std.specs.Prelude.{◌≡◌, ◌≢◌, ℕ, zero, suc, Bool, true, false, List, [], ◌∷◌, map, Option, Some, None, refl, slice_get}
 use Rattle.std.proofs.Common.{sym, subst, arith, true≢false}
 use Rattle.std.specs.List.{AllByRecursion}
 use Rattle.lx_auto.specs.declared.automaton.Accept.{Accept}
@@ -12,7 +12,7 @@ use Rattle.lx_auto.specs.declared.ops.Op.TheVariants.{Here, Null, Copy, MHere, M
 use Rattle.lx_ccode.specs.Statements.{code_of}
 use Rattle.lx_ccode.specs.declared.piece.Piece.{Piece}
 use Rattle.lx_ccode.specs.declared.piece.Stmt.{Stmt}
-use Rattle.lx_ccode.specs.declared.piece.Stmt.TheVariants.{Accept as SaveAccept, Backup, Goto, IfAccept, IfEnd, IfUnit, Leave, Need, Peek, Restore, Skip, State as Store, Try}
+use Rattle.lx_ccode.specs.declared.piece.Stmt.TheVariants.{Accept as SaveAccept, Backup, Goto, IfAccept, IfEnd, IfIs, IfSet, IfUnit, Leave, Need, Peek, Restore, Skip, State as Store, Switch, Try}
 use Rattle.lx_sequence.specs.ParallelCopies.{sequentialized}
 use Rattle.lx_layout.specs.Codes.{Choice, accept_code, list_code, op_code, ops_code, restore_code, save_code}
 use Rattle.lx_layout.specs.Endings.{Ending, ending_code}
@@ -24,16 +24,20 @@ use Rattle.lx_layout.specs.Supplies.{Reader, back_code, end_test, need_code, sto
 use Rattle.lx_layout.proofs.ScannerLaws.FewSteps.{Backs, Calm, CalmAt, checks, fewer, goto, if_accept, if_end, is_simple, simple, stores, tries}
 use Rattle.lx_layout.proofs.SuppliedLayouts.ClosedCodes.{ending_fits}
 use Rattle.lx_layout.proofs.SuppliedLayouts.CommonCodes.{AreCommon, ending_common, is_common}
+use Rattle.lx_layout.proofs.Validity.EachElement.{each-back}
 
 simple_one : (statement : Stmt) → is_common statement ≡ true → JumpsTo (λ block. ⊥) statement → is_simple statement ≡ true
 simple_one Peek common never = absurd (true≢false (sym common))
 simple_one (Need units) common never = absurd (true≢false (sym common))
 simple_one (Store state) common never = absurd (true≢false (sym common))
-simple_one (IfUnit greatest block) common never = absurd never
-simple_one (IfAccept accept block) common never = absurd never
-simple_one (IfEnd block) common never = absurd never
-simple_one (Try block) common never = absurd never
-simple_one (Goto block) common never = absurd never
+simple_one (IfUnit greatest block) common never = absurd never.0
+simple_one (IfIs unit block) common never = absurd never.0
+simple_one (IfSet set block) common never = absurd never.0
+simple_one (IfAccept accept block) common never = absurd never.0
+simple_one (IfEnd block) common never = absurd never.0
+simple_one (Try block) common never = absurd never.0
+simple_one (Switch cases last) common never = absurd (each-back (λ block. ⊥) (map (λ case. case.block) cases) (last ∷ []) never).0
+simple_one (Goto block) common never = absurd never.0
 simple_one _ common never = refl
 
 module _ (piece : Piece) (stream : List ℕ) (Stored : ℕ → Type 0) (n : ℕ) where

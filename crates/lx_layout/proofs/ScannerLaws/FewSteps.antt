@@ -8,7 +8,7 @@ use Rattle.lx_ccode.specs.Traces.{count_made, is_peek, trace, traced}
 use Rattle.lx_ccode.specs.declared.piece.CodeBlock.{CodeBlock}
 use Rattle.lx_ccode.specs.declared.piece.Piece.{Piece}
 use Rattle.lx_ccode.specs.declared.piece.Stmt.{Stmt}
-use Rattle.lx_ccode.specs.declared.piece.Stmt.TheVariants.{Peek, Skip, Backup, Restore, Accept, Set, Unset, Copy, MSet, MUnset, MCopy, IfUnit, IfAccept, IfEnd, State, Need, Try, Cond, Tag, Count, End, Back, Goto, Leave, Code, Jump}
+use Rattle.lx_ccode.specs.declared.piece.Stmt.TheVariants.{Peek, Skip, Backup, Restore, Accept, Set, Unset, Copy, MSet, MUnset, MCopy, IfUnit, IfIs, IfSet, IfAccept, IfEnd, State, Need, Try, Cond, Tag, Count, End, Back, Switch, Goto, Leave, Code, Jump}
 use Rattle.lx_layout.specs.Layout.{StandsFrom}
 use Rattle.lx_layout.specs.TestRuns.{is_test}
 use Rattle.lx_layout.specs.TestTrees.{EachTest, TestTree, depth, fork, inner_blocks, inner_size, leaf, test, tree_code}
@@ -19,11 +19,14 @@ use Rattle.lx_layout.proofs.BlockLayouts.TreeCodes.{length-inner_blocks}
 abbrev pub is_simple : Stmt → Bool
 is_simple Peek = false
 is_simple (IfUnit greatest block) = false
+is_simple (IfIs unit block) = false
+is_simple (IfSet set block) = false
 is_simple (IfAccept accept block) = false
 is_simple (IfEnd block) = false
 is_simple (State state) = false
 is_simple (Need units) = false
 is_simple (Try block) = false
+is_simple (Switch cases last) = false
 is_simple (Goto block) = false
 is_simple _ = true
 
@@ -153,6 +156,9 @@ module _ (piece : Piece) (stream : List ℕ) (Stored : ℕ → Type 0) where
 
     simple_tests : (statement : Stmt) → is_simple statement ≡ true → is_test statement ≡ false
     simple_tests (IfUnit greatest block) is = absurd (cc)
+    simple_tests (IfIs unit block) is = absurd (cc)
+    simple_tests (IfSet set block) is = absurd (cc)
+    simple_tests (Switch cases last) is = absurd (cc)
     simple_tests _ is = refl
 
     pub simple : (statement : Stmt) (rest : List Stmt) → is_simple statement ≡ true → Calm reads most n rest → Calm reads most (suc n) (statement ∷ rest)
@@ -275,7 +281,7 @@ module _ (piece : Piece) (stream : List ℕ) (Stored : ℕ → Type 0) where
       by (goes_on code next others) after few = let least = after (omega (arith, few)) in omega (arith, least)
       by (ends outcome next) after few = omega arith
 
-      stepped : (o : Option ℕ) → After 0 most steps (if_unit o greatest (code_at piece.blocks (Some block)) rest machine answers)
+      stepped : (o : Option ℕ) → After 0 most steps (if_unit o (λ unit. nat_le unit greatest) (code_at piece.blocks (Some block)) rest machine answers)
       stepped None = tt
       stepped (Some unit) =
           chosen 0 most n steps (nat_le unit greatest) (code_at piece.blocks (Some block)) rest machine answers

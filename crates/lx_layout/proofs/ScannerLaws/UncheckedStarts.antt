@@ -9,7 +9,7 @@ use Rattle.lx_auto.specs.declared.automaton.Auto.{Auto}
 use Rattle.lx_auto.specs.declared.automaton.Edge.{Edge}
 use Rattle.lx_ccode.specs.Scanners.{IsOfScanner, StandsIn, begins, leads_to, led}
 use Rattle.lx_ccode.specs.States.{states_from}
-use Rattle.lx_ccode.specs.Statements.{code_of, is_need, is_state}
+use Rattle.lx_ccode.specs.Statements.{code_of, is_need, is_state, targets}
 use Rattle.lx_ccode.specs.Validity.{AreOnce}
 use Rattle.lx_ccode.specs.declared.piece.Piece.{Piece}
 use Rattle.lx_ccode.specs.declared.piece.Stmt.{Stmt}
@@ -32,7 +32,7 @@ use Rattle.lx_layout.proofs.SuppliedLayouts.ClosedCodes.{sorts_fit}
 use Rattle.lx_layout.proofs.SuppliedLayouts.CommonCodes.{none-accept, none-ending, none-fallback}
 use Rattle.lx_layout.proofs.SuppliedLayouts.LayoutServes.{behind, place_is, state_stands}
 use Rattle.lx_layout.proofs.SuppliedLayouts.Lengths.{length-fallback_part, length-layout}
-use Rattle.lx_layout.proofs.SuppliedLayouts.OwnBlocks.{all-contained, jump_goes, none-contained, scanner_own}
+use Rattle.lx_layout.proofs.SuppliedLayouts.OwnBlocks.{all-contained, none-contained, scanner_own}
 use Rattle.lx_layout.proofs.SuppliedLayouts.Places.{begin_in}
 use Rattle.lx_layout.proofs.SuppliedLayouts.StoredNothing.{others_store}
 use Rattle.lx_layout.proofs.Validity.EachElement.{each-append}
@@ -202,11 +202,11 @@ module _ (piece : Piece) (supply : Supply) (halting : Halting) (endings : ℕ �
         (each-append IsLast restores (ends ++ last) (last_restores saves) (each-append IsLast ends last (last_endings list) (last_end end_rule)))) block code low
         (omega (arith, high, whole, a, b, c, d, e, f)) is
 
-    goes_on : (statement : Stmt) (code : List Stmt) (next : ℕ) → IsLast code → Contains code statement → leads_to piece.blocks statement ≡ Some next
+    goes_on : (statement : Stmt) (code : List Stmt) (next : ℕ) → IsLast code → Contains code statement → Contains (leads_to piece.blocks statement) next
         → fall_block supply halting end_rule trees auto begin ≤ next
     goes_on (Store number) code next last has leads = absurd (true≢false (none-contained is_state code (Store number) last.unstored has))
     goes_on statement code next last has leads =
-        jump_goes Late statement next (all-contained (JumpsTo Late) code statement last.jumps has) leads
+        all-contained Late (targets statement) next (all-contained (JumpsTo Late) code statement last.jumps has) leads
 
     tail : (block : ℕ) → IsOfScanner piece.blocks (entry_of supply halting end_rule trees auto begin) block → IsTail block
     tail block (begins) = inl (ap (λ o. entry_by supply halting end_rule trees auto begin o) apart ∙ place_own)

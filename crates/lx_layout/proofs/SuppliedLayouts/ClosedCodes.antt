@@ -37,7 +37,7 @@ module _ (B : ℕ → Type 0) where
   }
 
   goto_fits : (block : ℕ) → B block → Fits (Goto block ∷ [])
-  goto_fits block to = record { ends = refl; jumps = (to, tt) }
+  goto_fits block to = record { ends = refl; jumps = ((to, tt), tt) }
 
   op_fits : (op : Op) (code : List Stmt) → Fits code → Fits (op_code op ∷ code)
   op_fits (Here r) code h = more (op_code (Here r)) code refl tt h
@@ -56,10 +56,10 @@ module _ (B : ℕ → Type 0) where
 
   fallback_fits : (leaves : Bool) (choices : List Choice) → AllByRecursion (λ (choice : Choice). B choice.block) choices → Fits (fallback_code leaves choices)
   fallback_fits leaves [] to = record { ends = refl; jumps = (tt, tt) }
-  fallback_fits true (choice ∷ []) to = record { ends = refl; jumps = (to.0, (tt, tt)) }
+  fallback_fits true (choice ∷ []) to = record { ends = refl; jumps = ((to.0, tt), (tt, tt)) }
   fallback_fits false (choice ∷ []) to = goto_fits choice.block to.0
   fallback_fits leaves (choice ∷ next ∷ choices) to =
-      more (IfAccept choice.saved choice.block) (fallback_code leaves (next ∷ choices)) refl to.0 (fallback_fits leaves (next ∷ choices) to.1)
+      more (IfAccept choice.saved choice.block) (fallback_code leaves (next ∷ choices)) refl (to.0, tt) (fallback_fits leaves (next ∷ choices) to.1)
 
   save_fits : (saves : Bool) (saved : ℕ) (rest : List Stmt) → Fits rest → Fits (save_code saves saved rest)
   save_fits false saved rest h = h
@@ -133,14 +133,14 @@ module _ (B : ℕ → Type 0) where
       (λ accept. Unit {0}) (λ rule. Unit {0}) supply halting endings auto
   sorts_fit supply halting endings auto = record {
     jumps = λ block to at. goto_fits block to;
-    tests = λ greatest block code any to h at. more (IfUnit greatest block) code refl to (h at);
+    tests = λ greatest block code any to h at. more (IfUnit greatest block) code refl (to, tt) (h at);
     unchecked = tt;
     checks = λ reader at units block asked own to. need_fits supply.stored reader (suc units) (Goto block ∷ []) (goto_fits block to);
     reads = λ reader at units code asked own h. need_fits supply.stored reader units (Peek ∷ code) (more Peek code refl tt (h at));
-    asks = λ asked to there also at. more (IfEnd asked) (Goto to ∷ []) refl there (goto_fits to also);
+    asks = λ asked to there also at. more (IfEnd asked) (Goto to ∷ []) refl (there, tt) (goto_fits to also);
     tries = λ reader block end tries some own there also at next.
-        store_fits supply.stored reader (Try block ∷ Goto end ∷ []) (more (Try block) (Goto end ∷ []) refl there (goto_fits end also));
-    comes_back = λ block end there also at. more (IfEnd end) (Goto block ∷ []) refl also (goto_fits block there);
+        store_fits supply.stored reader (Try block ∷ Goto end ∷ []) (more (Try block) (Goto end ∷ []) refl (there, tt) (goto_fits end also));
+    comes_back = λ block end there also at. more (IfEnd end) (Goto block ∷ []) refl (also, tt) (goto_fits block there);
     edges = λ given saved block edge any to at. edge_fits halting auto given saved edge block to;
     accepts = λ accept block any to at. list_fits auto accept.ops (Goto block ∷ []) (goto_fits block to);
     choices = λ leaves choices to at. fallback_fits leaves choices to;

@@ -1,18 +1,17 @@
 -- A scanner whose entry is that of a layout stays within the blocks of the layout, wherever these stand in a piece.
-use Rattle.std.specs.Prelude.{◌≡◌, ◌⊎◌, ℕ, zero, suc, ◌+◌, ◌-◌, ◌<◌, ◌≤◌, Bool, false, List, [], ◌∷◌, length, Option, Some, None, Contains, slice_get, slice_index_or, get_or}
+use Rattle.std.specs.Prelude.{◌≡◌, ◌⊎◌, ℕ, zero, suc, ◌+◌, ◌-◌, ◌<◌, ◌≤◌, Bool, false, List, [], ◌∷◌, length, Option, Some, None, Contains, refl, slice_get, slice_index_or, get_or}
 use Rattle.std.proofs.Common.{inl, inr, sym, ap, ◌∙◌, subst, arith, true≢false}
 use Rattle.std.proofs.lemmas.Option.{slice_get-get_or}
 use Rattle.std.specs.List.{AllByRecursion, list_any}
 use Rattle.lx_auto.specs.Automaton.{IsAuto}
 use Rattle.lx_auto.specs.declared.automaton.Auto.{Auto}
-use Rattle.lx_ccode.specs.Scanners.{IsOfScanner, StandsIn, begins, leads_to, led}
-use Rattle.lx_ccode.specs.Statements.{code_of, is_state}
+use Rattle.lx_ccode.specs.Scanners.{IsOfScanner, StandsIn, begins, block_list, leads_to, led}
+use Rattle.lx_ccode.specs.Statements.{code_of, is_state, targets}
 use Rattle.lx_ccode.specs.States.{state_block, states_from}
-use Rattle.lx_ccode.specs.Traces.{jump_target}
 use Rattle.lx_ccode.specs.Validity.{AreOnce}
 use Rattle.lx_ccode.specs.declared.piece.CodeBlock.{CodeBlock}
 use Rattle.lx_ccode.specs.declared.piece.Stmt.{Stmt}
-use Rattle.lx_ccode.specs.declared.piece.Stmt.TheVariants.{Goto, IfAccept, IfEnd, IfUnit, State as Store, Try}
+use Rattle.lx_ccode.specs.declared.piece.Stmt.TheVariants.{State as Store}
 use Rattle.lx_layout.specs.Endings.{Ending}
 use Rattle.lx_layout.specs.Halting.{AreHalting, Halting}
 use Rattle.lx_layout.specs.Layout.{StandsFrom}
@@ -26,7 +25,7 @@ use Rattle.lx_layout.proofs.SuppliedLayouts.HeldLayouts.{accepts_any, edges_any,
 use Rattle.lx_layout.proofs.SuppliedLayouts.ReturnBlocks.{ComesBack, comes-sorts, none_head, state_returns}
 use Rattle.lx_layout.proofs.SuppliedLayouts.StoredNothing.{layout_stores_nothing}
 
--- ---- one of many codes, and one of many statements
+-- ---- one of many codes, and one of many
 
 pub each_from-get : (P : ℕ → List Stmt → Type 0) (from : ℕ) (codes : List (List Stmt)) (k : ℕ) (code : List Stmt) → EachFrom P from codes
     → slice_get codes k ≡ Some code → P (from + k) code
@@ -44,13 +43,13 @@ all-get P [] k code h is = absurd (cc)
 all-get P (first ∷ codes) zero code h is = let same : first ≡ code = cc in subst P same h.0
 all-get P (first ∷ codes) (suc k) code h is = all-get P codes k code h.1 is
 
-pub all-contained : (P : Stmt → Type 0) (code : List Stmt) (statement : Stmt) → AllByRecursion P code → Contains code statement → P statement
-all-contained P code statement h has = by code has.0 has.1 has.2 h
+pub all-contained : {A : Type 0} (P : A → Type 0) (xs : List A) (x : A) → AllByRecursion P xs → Contains xs x → P x
+all-contained {A} P xs x h has = by xs has.0 has.1 has.2 h
   where
-    by : (code : List Stmt) (k : ℕ) → k < length code → slice_index_or code k statement ≡ statement → AllByRecursion P code → P statement
+    by : (xs : List A) (k : ℕ) → k < length xs → slice_index_or xs k x ≡ x → AllByRecursion P xs → P x
     by [] k lt is h = absurd (omega (arith, lt))
-    by (first ∷ code) zero lt is h = subst P is h.0
-    by (first ∷ code) (suc k) lt is h = by code k (omega (arith, lt)) is h.1
+    by (first ∷ xs) zero lt is h = subst P is h.0
+    by (first ∷ xs) (suc k) lt is h = by xs k (omega (arith, lt)) is h.1
 
 -- a test that no statement passes
 pub none-contained : (test : Stmt → Bool) (code : List Stmt) (statement : Stmt) → list_any test code ≡ false → Contains code statement → test statement ≡ false
@@ -61,14 +60,10 @@ none-contained test code statement none has = by code has.0 has.1 has.2 none
     by (first ∷ code) zero lt is none = ap (λ s. test s) (sym is) ∙ (none_head (test first) (list_any test code) none).0
     by (first ∷ code) (suc k) lt is none = by code k (omega (arith, lt)) is (none_head (test first) (list_any test code) none).1
 
--- where a statement jumps
-pub jump_goes : (B : ℕ → Type 0) (statement : Stmt) (next : ℕ) → JumpsTo B statement → jump_target statement ≡ Some next → B next
-jump_goes B (IfUnit greatest block) next to is = let same : block ≡ next = cc in subst B same to
-jump_goes B (IfAccept accept block) next to is = let same : block ≡ next = cc in subst B same to
-jump_goes B (IfEnd block) next to is = let same : block ≡ next = cc in subst B same to
-jump_goes B (Try block) next to is = let same : block ≡ next = cc in subst B same to
-jump_goes B (Goto block) next to is = let same : block ≡ next = cc in subst B same to
-jump_goes B _ next to is = absurd (cc)
+-- the block of a list of one, or of none
+block_list-contains : (o : Option ℕ) (next : ℕ) → Contains (block_list o) next → o ≡ Some next
+block_list-contains None next has = let lt = has.1 in absurd (omega (arith, lt))
+block_list-contains (Some block) next has = all-contained (λ other. Some block ≡ Some other) (block ∷ []) next (refl, tt) has
 
 -- ---- the layout
 
@@ -126,15 +121,15 @@ module _ (blocks : List CodeBlock) (supply : Supply) (halting : Halting) (ending
 
   -- ---- from block to block
 
-  goes_on_own : (block : ℕ) (statement : Stmt) (next : ℕ) → IsOwn block → StandsIn blocks block statement → leads_to blocks statement ≡ Some next → IsOwn next
+  goes_on_own : (block : ℕ) (statement : Stmt) (next : ℕ) → IsOwn block → StandsIn blocks block statement → Contains (leads_to blocks statement) next → IsOwn next
   goes_on_own block statement next own there leads = by statement there.2 leads
     where
       found : (k : ℕ) × (begin + k ≡ block) × (slice_get (supplied_layout supply halting endings end_rule trees auto begin) k ≡ Some there.0)
       found = own_code block there.0 own there.1
 
-      jumps : (statement : Stmt) → Contains there.0 statement → jump_target statement ≡ Some next → IsOwn next
+      jumps : (statement : Stmt) → Contains there.0 statement → Contains (targets statement) next → IsOwn next
       jumps statement has is =
-          jump_goes IsOwn statement next
+          all-contained IsOwn (targets statement) next
           (all-contained (JumpsTo IsOwn) there.0 statement
           (all-get (λ code. AllByRecursion (JumpsTo IsOwn) code) codes found.0 there.0
           (closed_jumps supply halting endings end_rule greatest trees auto begin formed are marked) found.2) has) is
@@ -149,8 +144,8 @@ module _ (blocks : List CodeBlock) (supply : Supply) (halting : Halting) (ending
           state_returns IsOwn blocks once block there.0 there.1 number has.0 own
           (subst (λ n. ComesBack IsOwn n there.0) found.1 (each_from-get (ComesBack IsOwn) begin codes found.0 there.0 comes found.2)) has.1 has.2 next is
 
-      by : (statement : Stmt) → Contains there.0 statement → leads_to blocks statement ≡ Some next → IsOwn next
-      by (Store number) has is = returns number has is stored
+      by : (statement : Stmt) → Contains there.0 statement → Contains (leads_to blocks statement) next → IsOwn next
+      by (Store number) has is = returns number has (block_list-contains (state_block blocks number) next is) stored
       by _ has is = jumps _ has is
 
   pub scanner_own : (block : ℕ) → IsOfScanner blocks (entry_of supply halting end_rule trees auto begin) block → IsOwn block

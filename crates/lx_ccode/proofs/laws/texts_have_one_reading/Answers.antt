@@ -6,7 +6,9 @@ use Rattle.lx_ccode.proofs.laws.texts_have_one_reading.Goals as goal
 
 pub returns : goal.returns
 returns c = record {
-  one_piece = λ piece other valid other_valid same. (one_reading piece other _ _ valid other_valid (ap (λ text. text ++ []) same)).0;
-  no_front = λ piece other tail valid other_valid same. (one_reading piece other tail _ valid other_valid (same ∙ sym (append-nil (piece_text other)))).1;
+  one_piece = λ place mark piece other valid placed other_valid marked same.
+      let both = one_reading place mark piece other _ _ valid placed other_valid marked (ap (λ text. text ++ []) same) in (both.0, both.1);
+  no_front = λ place mark piece other tail valid placed other_valid marked same.
+      (one_reading place mark piece other tail _ valid placed other_valid marked (same ∙ sym (append-nil (piece_text mark other)))).2;
   before_any_bytes = one_reading;
 }

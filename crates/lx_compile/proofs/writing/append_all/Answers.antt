@@ -1,4 +1,4 @@
-use Rattle.std.proofs.Common.{◌≡◌, ◌∙◌, ◌∷◌, ◌+◌, ◌++◌, ℕ, List, Vec, Global, ap, sym, drop, arith}
+use Rattle.std.proofs.Common.{◌≡◌, ◌∙◌, ◌∷◌, ◌+◌, ◌++◌, ℕ, List, None, Vec, Global, ap, sym, drop, arith}
 use Rattle.std.proofs.lemmas.Result.{err_from_is_err_and}
 use Rattle.lx_base.specs.Names.{Spellings}
 use Rattle.lx_ccode.specs.Bodies.{body_piece_text}
@@ -40,7 +40,7 @@ loop-one-preserved c =
             small = omega (arith, w.number-is, c.loop-one.invariant.small);
           }
       | in-Scanners+in_ok-append_piece-in-Scanners w ↦
-          let text = piece_text w.in-Scanners.piece in
+          let text = piece_text None w.in-Scanners.piece in
           let here = ap (λ one. output ++ text_among names all number (one ∷ rest)) (sym w.in-Scanners.is) ∙ texts in
           let is : after ≡ output ++ text = ap items w.output-is ∙ w.in_ok-append_piece-in-Scanners.ensures in record {
             text = text_among-next names all number c.match-one.number rest output text after whole here is w.number-is;

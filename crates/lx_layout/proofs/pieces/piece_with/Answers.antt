@@ -23,6 +23,7 @@ returns-clause-fields c =
       unit = c.unit_bytes.ensures;
       eof = refl;
       declares = declares-not c.args.form.stores;
+      table = c.new.ensures;
       ctx = c.has_context-ctx.ensures
           ∙ ap (λ (l : List CodeBlock). form.context && list_any has_register_one (all_statements l)) (c.deref-4.ensures.value ∙ sym same);
       switches = c.switch_of-states.ensures.has;

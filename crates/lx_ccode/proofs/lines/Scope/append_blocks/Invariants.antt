@@ -5,5 +5,5 @@ use Rattle.lx_ccode.proofs.lines.Scope.append_blocks.Given as goal
 
 abbrev pub invariant-loop-place : goal.invariant-loop-place
 invariant-loop-place l =
-    l.text.items ++ blocks_then (scope_wording l.self) l.place (drop l.place l.blocks) []
-    ≡ l.initial.text.items ++ blocks_then (scope_wording l.self) 0 l.blocks []
+    l.text.items ++ blocks_then (scope_wording l.self) l.line l.place (drop l.place l.blocks) []
+    ≡ l.initial.text.items ++ blocks_then (scope_wording l.self) l.initial.line 0 l.blocks []

@@ -6,4 +6,4 @@ use Rattle.lx_ccode.proofs.lines.Scope.behind_blocks.Given as goal
 
 abbrev pub invariant-loop-place : goal.invariant-loop-place
 invariant-loop-place l =
-    IsBehind (blocks_then (scope_wording l.self) 0 l.blocks) (blocks_then (scope_wording l.self) l.place (drop l.place l.blocks)) l.fn.bytes l.rest
+    IsBehind (blocks_then (scope_wording l.self) l.initial.line 0 l.blocks) (blocks_then (scope_wording l.self) l.line l.place (drop l.place l.blocks)) l.fn.bytes l.rest

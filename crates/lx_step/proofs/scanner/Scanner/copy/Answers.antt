@@ -7,5 +7,5 @@ use Rattle.lx_step.proofs.Tables.{IsStep-register, all-at}
 use Rattle.lx_step.proofs.scanner.Scanner.copy.Goals as goal
 
 pub returns : goal.returns
-returns c = λ stream eof conds. IsStep-register stream eof conds (Copy c.args.register c.args.source) _ _ c.args.register _ c.set_register.ensures
+returns c = λ stream eof table conds. IsStep-register stream eof table conds (Copy c.args.register c.args.source) _ _ c.args.register _ c.set_register.ensures
     (λ piece rest values answers. ap (λ value. goes_on rest (record (machine_of conds c.args.self.now values) { registers = updated c.args.register value (content_of c.args.self.now) }) answers) (sym c.content-value.ensures)) (λ values. refl) (λ values. refl) refl (λ start from. subst (IsBehind start) (sym c.content-value.ensures) (all-at (IsBehind start) _ _ None tt from.registers))
