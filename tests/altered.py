@@ -27,6 +27,8 @@ STEPS = {
     "stored states in few bytes": 1,
     "stored states": 97,
     "stored states, without a head": 97,
+    "words, of format 3": 61,
+    "conditions and stored states, of format 3": 29,
 }
 
 
@@ -53,7 +55,7 @@ class Sample:
     def read(self, lines):
         order = ""
         for line in lines:
-            if line.startswith(("| ", "> ")):
+            if line == "|" or line.startswith(("| ", "> ")):
                 self.take(order, line)
             else:
                 order = line
@@ -67,7 +69,7 @@ class Sample:
 
     def take(self, order, line):
         if order in ("given q.c", "file q.c"):
-            self.text += read_text(line[2:]) + (b"\n" if line.startswith("| ") else b"")
+            self.text += read_text(line[2:]) + (b"\n" if line.startswith("|") else b"")
         elif order == "out":
             self.left += line + "\n"
 

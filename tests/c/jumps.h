@@ -53,7 +53,7 @@ static int next_unit(YYCTYPE *unit)
 	count = sizeof bytes;
 	*unit = 0;
 	for (place = 0; place < count; place++)
-		*unit |= (YYCTYPE)((YYCTYPE)bytes[place] << (8 * place));
+		*unit |= (YYCTYPE)((unsigned long)bytes[place] << (8 * place));
 	return 1;
 }
 
@@ -61,7 +61,7 @@ static int next_unit(YYCTYPE *unit)
 static int fill(void)
 {
 	size_t kept = (size_t)(YYLIMIT - token), added = 0;
-	YYCTYPE *fresh = malloc((kept + REFILL + 1) * sizeof(YYCTYPE));
+	YYCTYPE *fresh = (YYCTYPE *)malloc((kept + REFILL + 1) * sizeof(YYCTYPE));
 
 	if (!fresh)
 		exit(1);
@@ -224,7 +224,7 @@ int main(int count, char **words)
 		return 1;
 	size = ftell(file) / (long)sizeof(YYCTYPE);
 	rewind(file);
-	buffer = calloc(1, sizeof(YYCTYPE));
+	buffer = (YYCTYPE *)calloc(1, sizeof(YYCTYPE));
 	YYCURSOR = YYLIMIT = YYMARKER = YYCTXMARKER = token = buffer;
 	while (WHOLE && !fill())
 		;

@@ -1,6 +1,6 @@
 # What the scripts of this folder begin with: the repository, the program, the compiler and its options, and a folder that is removed at
 # the end. RE2C names the program, and CC the compiler.
-# A piece has a label for each block and for its end, whether a jump reaches it or not, and it declares its variables whether it
+# A piece of format 2 has a label for each block and for its end, whether a jump reaches it or not, and it declares its variables whether it
 # needs them or not.
 set -eu
 
