@@ -7,6 +7,7 @@ pub mod CodesInBlocks
 pub mod EqualClasses
 pub mod FirstAccepts
 pub mod LayoutLengths
+pub mod Questions
 pub mod SplitLoops
 pub mod SplitTrees
 pub mod Splits

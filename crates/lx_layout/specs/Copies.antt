@@ -70,6 +70,7 @@ pub record SuppliesBehind (stored : ℕ) (other given : Supply) : Type 0 where
   pub tries : other.tries ≡ given.tries
   pub check : other.check ≡ given.check
   pub numbers : StoredBehind stored other.stored given.stored
+  pub among : other.among ≡ given.among
 
 -- the statements of blocks
 abbrev pub codes_in : List CodeBlock → List (List Stmt)

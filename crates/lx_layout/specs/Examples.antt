@@ -14,7 +14,7 @@ use Rattle.lx_layout.specs.Layout.{class_block}
 use Rattle.lx_layout.specs.Starts.{run_with}
 use Rattle.lx_layout.specs.SuppliedLayout.{EachReader, reader_blocks, supplied_layout, with_blocks}
 use Rattle.lx_layout.specs.Supplies.{Reader, entry, plain_supply, state}
-use Rattle.lx_layout.specs.TestTrees.{IsTreeOf, TestTree, fork, leaf, test}
+use Rattle.lx_layout.specs.TestTrees.{IsTreeOf, TestTree, at_most, fork, leaf, test}
 use Rattle.lx_layout.specs.TransitionClasses.{Split}
 
 -- each rule has the tag `t`, and the action `a`
@@ -23,8 +23,8 @@ tagged rule = record { tags = (116 ∷ []) ∷ []; slash = None; groups = 0; goe
 
 -- Trees of tests for the automaton of `[a-cx-z] ("." [a-cx-z])* @t` for bytes. In state 0 the units behind 96 are parted behind 119.
 abbrev pub dotted_tree : (number : ℕ) → TestTree (Option ℕ)
-dotted_tree zero = test 96 None (fork 119 (test 99 (Some 0) (leaf None)) (test 122 (Some 0) (leaf None)))
-dotted_tree (suc number) = test 45 None (test 46 (Some 0) (leaf None))
+dotted_tree zero = test (at_most 96) None (fork (at_most 119) (test (at_most 99) (Some 0) (leaf None)) (test (at_most 122) (Some 0) (leaf None)))
+dotted_tree (suc number) = test (at_most 45) None (test (at_most 46) (Some 0) (leaf None))
 
 abbrev pub dotted_trees : Reader → TestTree (Option ℕ)
 dotted_trees entry = dotted_tree 0
@@ -68,7 +68,7 @@ any_then = record {
 
 abbrev pub any_tree : (number : ℕ) → TestTree (Option ℕ)
 any_tree zero = leaf (Some 0)
-any_tree (suc number) = test 96 None (test 122 (Some 0) (leaf None))
+any_tree (suc number) = test (at_most 96) None (test (at_most 122) (Some 0) (leaf None))
 
 abbrev pub any_trees : Reader → TestTree (Option ℕ)
 any_trees entry = any_tree 0
@@ -107,8 +107,8 @@ seven = record {
 
 abbrev pub seven_tree : TestTree (Option ℕ)
 seven_tree =
-    fork 40 (test 10 (Some 0) (test 20 (Some 1) (test 30 (Some 2) (leaf (Some 3)))))
-    (test 50 (Some 4) (test 60 (Some 5) (test 70 (Some 6) (leaf (Some 7)))))
+    fork (at_most 40) (test (at_most 10) (Some 0) (test (at_most 20) (Some 1) (test (at_most 30) (Some 2) (leaf (Some 3)))))
+    (test (at_most 50) (Some 4) (test (at_most 60) (Some 5) (test (at_most 70) (Some 6) (leaf (Some 7)))))
 
 -- letters, digits and `_` are of class 0, and others of none
 abbrev pub letters : Split
@@ -122,8 +122,8 @@ letters = record {
 
 abbrev pub letters_tree : TestTree (Option ℕ)
 letters_tree =
-    test 47 None (fork 94 (fork 64 (test 57 (Some 0) (leaf None)) (test 90 (Some 0) (leaf None)))
-    (fork 96 (test 95 (Some 0) (leaf None)) (test 122 (Some 0) (leaf None))))
+    test (at_most 47) None (fork (at_most 94) (fork (at_most 64) (test (at_most 57) (Some 0) (leaf None)) (test (at_most 90) (Some 0) (leaf None)))
+    (fork (at_most 96) (test (at_most 95) (Some 0) (leaf None)) (test (at_most 122) (Some 0) (leaf None))))
 
 -- Of eight runs and of nine each unit needs four tests at most. The tests of eight are parted in the middle. Those of nine begin before the
 -- digits, and are parted in halves behind that.

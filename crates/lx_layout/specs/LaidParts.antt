@@ -5,6 +5,7 @@ use Rattle.lx_auto.specs.Automaton.{IsAuto, state_of}
 use Rattle.lx_auto.specs.declared.automaton.Accept.{Accept}
 use Rattle.lx_auto.specs.declared.automaton.Edge.{Edge}
 use Rattle.lx_auto.specs.declared.automaton.State.{State}
+use Rattle.lx_ccode.specs.Machine.{is_among}
 use Rattle.lx_ccode.specs.declared.piece.Stmt.{Stmt}
 use Rattle.lx_layout.specs.Halting.{AreHalting, Halting, ended_accepts, is_entered, saved_accepts}
 use Rattle.lx_layout.specs.Layout.{end_block}
@@ -33,7 +34,7 @@ use Rattle.lx_layout.specs.declared.state_plans.StatePlan.{StatePlan}
 
 abbrev pub seen_demand : Demand → parts.Demand
 seen_demand demand =
-    record { eof = demand.eof; tries = demand.tries; check = checked_by (option_copied demand.checks); stores = demand.stores }
+    record { eof = demand.eof; tries = demand.tries; check = checked_by (option_copied demand.checks); stores = demand.stores; among = is_among [] }
 
 abbrev pub seen_given : PartInput → Given
 seen_given input =

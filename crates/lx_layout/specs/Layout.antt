@@ -7,7 +7,7 @@ use Rattle.lx_ccode.specs.declared.piece.Stmt.{Stmt}
 use Rattle.lx_ccode.specs.declared.piece.Stmt.TheVariants.{Goto}
 use Rattle.lx_layout.specs.Codes.{Choice, accept_code, restore_code}
 use Rattle.lx_layout.specs.Endings.{Ending, ending_code}
-use Rattle.lx_layout.specs.TestTrees.{TestTree, fork, leaf, test}
+use Rattle.lx_layout.specs.TestTrees.{TestTree, cases_by, fork, leaf, switch, test}
 
 -- ---- the rules by which states accept
 
@@ -56,8 +56,9 @@ class_block first end (Some place) = first + place
 -- the blocks of the classes that a tree picks
 abbrev pub numbered : (first end : ℕ) → TestTree (Option ℕ) → TestTree ℕ
 numbered first end (leaf class) = leaf (class_block first end class)
-numbered first end (test greatest class high) = test greatest (class_block first end class) (numbered first end high)
-numbered first end (fork greatest low high) = fork greatest (numbered first end low) (numbered first end high)
+numbered first end (test question class high) = test question (class_block first end class) (numbered first end high)
+numbered first end (fork question low high) = fork question (numbered first end low) (numbered first end high)
+numbered first end (switch cases last) = switch (cases_by (class_block first end) cases) (class_block first end last)
 
 -- the block where a match ends by an accept: its own one, or that of the rule
 abbrev pub own_block : (own rule : ℕ) → List Op → ℕ

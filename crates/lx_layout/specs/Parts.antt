@@ -22,6 +22,8 @@ pub record Demand : Type 0 where
   pub check : (number : ℕ) → ℕ
   -- whether what reads is stored before a refill
   pub stores : Bool
+  -- what is in the sets that are tested
+  pub among : (set unit : ℕ) → Bool
 
 -- The checks of a list, where a state has the number 0 if it has none. Where the start has none the scanner reads no unit, and its other
 -- states, to which no match comes, check for one unit each.
@@ -76,7 +78,7 @@ module _ (demand : Demand) (end_rule : Option ℕ) (auto : Auto) where
 
   abbrev pub supply_from : (first : ℕ) → Supply
   supply_from first =
-      record { eof = demand.eof; tries = demand.tries; check = demand.check; stored = stored_from demand.stores first }
+      record { eof = demand.eof; tries = demand.tries; check = demand.check; stored = stored_from demand.stores first; among = demand.among }
 
 -- ---- scanners of a piece
 

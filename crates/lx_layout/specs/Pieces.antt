@@ -15,6 +15,7 @@ use Rattle.lx_ccode.specs.Runs.{entry_block}
 use Rattle.lx_ccode.specs.States.{states_from}
 use Rattle.lx_ccode.specs.Statements.{all_statements, has_register_one, is_refill, is_state}
 use Rattle.lx_ccode.specs.Validity.{IsLabel, IsLine, IsShort, IsValid}
+use Rattle.lx_ccode.specs.Machine.{is_among}
 use Rattle.lx_ccode.specs.declared.piece.CodeBlock.{CodeBlock}
 use Rattle.lx_ccode.specs.declared.piece.Head.{Head}
 use Rattle.lx_ccode.specs.declared.piece.LineMark.{LineMark}
@@ -88,6 +89,7 @@ demand_of form checks = record {
   tries = is_some form.eof && form.fill;
   check = checked_by (counted form.eof form.fill checks);
   stores = form.stores;
+  among = is_among [];
 }
 
 -- the scanner as it stands in blocks

@@ -3,7 +3,7 @@ use Rattle.std.specs.Prelude.{◌≡◌, ◌≢◌, ◌⊎◌, ℕ, ◌+◌, ◌
 use Rattle.std.specs.List.{list_any}
 use Rattle.lx_auto.specs.declared.automaton.Auto.{Auto}
 use Rattle.lx_base.specs.declared.settings.Enc.{Enc}
-use Rattle.lx_ccode.specs.Machine.{at_end, unanswered}
+use Rattle.lx_ccode.specs.Machine.{at_end, is_among, unanswered}
 use Rattle.lx_ccode.specs.Runs.{Ended}
 use Rattle.lx_ccode.specs.Schedules.{IsLegal, Schedule}
 use Rattle.lx_ccode.specs.Statements.{all_statements, is_refill, is_state}
@@ -59,6 +59,7 @@ pub record IsSupplied (mode : Mode) (supply : Supply) (auto : Auto) (piece : Pie
   pub eof : piece.eof ≡ supply.eof
   pub of_mode : IsSupplyOf mode supply auto piece
   pub stored : AreStoredBy supply.stored piece
+  pub among : (set unit : ℕ) → supply.among set unit ≡ is_among piece.table set unit
 
 -- ---- what is promised
 

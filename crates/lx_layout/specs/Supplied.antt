@@ -52,14 +52,14 @@ module _ (supply : Supply) (halting : Halting) (endings : ℕ → Ending) (great
   -- it is read and told apart, since it may be one of the input where it is not greater than all of these.
   pub data ServesReader (reader : Reader) (units block : ℕ) (Leads : (unit block : ℕ) → Type 0) (Ends : ℕ → Type 0) : Type 0 where
     by_tests : (none : supply.eof ≡ None) (tree : TestTree ℕ) (next : ℕ) → HasCode block (need_code supply.stored reader units (Peek ∷ tree_code next tree))
-        → StandsFrom blocks next (inner_blocks next tree) → ((unit : ℕ) → unit ≤ greatest → Leads unit (picked tree unit))
+        → StandsFrom blocks next (inner_blocks next tree) → ((unit : ℕ) → unit ≤ greatest → Leads unit (picked supply.among tree unit))
         → ServesReader reader units block Leads Ends
     by_jump : (none : supply.eof ≡ None) (to : ℕ) → HasCode block (need_code supply.stored reader units (Goto to ∷ []))
         → ((unit : ℕ) → unit ≤ greatest → Leads unit to) → ServesReader reader units block Leads Ends
     itself : (none : supply.eof ≡ None) → units ≡ 0 → ((unit : ℕ) → unit ≤ greatest → Leads unit block) → ServesReader reader units block Leads Ends
     at_end : (eof : ℕ) (is : supply.eof ≡ Some eof) (tree : TestTree ℕ) (next to asked : ℕ) → HasCode block (Peek ∷ tree_code next tree)
-        → StandsFrom blocks next (inner_blocks next tree) → ((unit : ℕ) → unit ≤ greatest → unit ≢ eof → Leads unit (picked tree unit))
-        → HasCode (picked tree eof) (end_test asked to) → (eof ≤ greatest → Leads eof to) → ServesEnd supply.tries supply.stored reader block asked Ends
+        → StandsFrom blocks next (inner_blocks next tree) → ((unit : ℕ) → unit ≤ greatest → unit ≢ eof → Leads unit (picked supply.among tree unit))
+        → HasCode (picked supply.among tree eof) (end_test asked to) → (eof ≤ greatest → Leads eof to) → ServesEnd supply.tries supply.stored reader block asked Ends
         → ServesReader reader units block Leads Ends
 
   -- A state without edges reads no unit: its block is one where the match ends, or jumps there.

@@ -14,7 +14,7 @@ use Rattle.lx_layout.specs.Endings.{Ending, ending_code}
 use Rattle.lx_layout.specs.Layout.{choices_from, class_block, end_block, end_blocks, end_size, ending_blocks, lone_blocks, lone_place, lone_size, restore_blocks, rule_place, saved_number}
 use Rattle.lx_layout.specs.Halting.{Halting, any_falls, ended_accepts, halted_accept, is_entered, saved_accepts}
 use Rattle.lx_layout.specs.Supplies.{Reader, Supply, back_code, end_test, entry, need_code, state as by_state, try_code}
-use Rattle.lx_layout.specs.TestTrees.{TestTree, fork, inner_blocks, inner_size, leaf, test, tree_code}
+use Rattle.lx_layout.specs.TestTrees.{TestTree, cases_by, fork, inner_blocks, inner_size, leaf, switch, test, tree_code}
 use Rattle.lx_layout.specs.TransitionClasses.{Split, edge_class, same_place, transition_classes}
 use Rattle.lx_layout.specs.UnitApart.{reader_split}
 
@@ -29,8 +29,9 @@ check_size (suc units) = 1
 -- stands at the end that is told apart from the others.
 abbrev pub reader_size : {A : Type 0} → (eof : Option ℕ) → (units : ℕ) → TestTree A → ℕ
 reader_size None units (leaf class) = check_size units
-reader_size None units (test greatest class high) = suc (inner_size high)
-reader_size None units (fork greatest low high) = suc (suc (inner_size low) + inner_size high)
+reader_size None units (test question class high) = suc (inner_size high)
+reader_size None units (fork question low high) = suc (suc (inner_size low) + inner_size high)
+reader_size None units (switch cases last) = 1
 reader_size (Some eof) units tree = suc (inner_size tree)
 
 -- what reads has so many blocks for the end of the input
@@ -58,8 +59,9 @@ module _ (stored : Option (Reader → ℕ)) (reader : Reader) where
 
   abbrev pub reader_blocks : (eof : Option ℕ) → (units from : ℕ) → TestTree ℕ → List (List Stmt)
   reader_blocks None units from (leaf block) = check_blocks units block
-  reader_blocks None units from (test greatest block high) = read_blocks units from (test greatest block high)
-  reader_blocks None units from (fork greatest low high) = read_blocks units from (fork greatest low high)
+  reader_blocks None units from (test question block high) = read_blocks units from (test question block high)
+  reader_blocks None units from (fork question low high) = read_blocks units from (fork question low high)
+  reader_blocks None units from (switch cases last) = read_blocks units from (switch cases last)
   reader_blocks (Some eof) units from tree = read_blocks 0 from tree
 
   -- What stands where the unit at the end was read, from the block `here` on: if it is a unit of the input it leads to `to`. At the end the
@@ -81,8 +83,9 @@ at_end_blocks supply reader block here to end = blocks_at_end supply.stored read
 -- the blocks of the classes that a tree picks
 abbrev pub with_blocks : (block : Option ℕ → ℕ) → TestTree (Option ℕ) → TestTree ℕ
 with_blocks block (leaf class) = leaf (block class)
-with_blocks block (test greatest class high) = test greatest (block class) (with_blocks block high)
-with_blocks block (fork greatest low high) = fork greatest (with_blocks block low) (with_blocks block high)
+with_blocks block (test question class high) = test question (block class) (with_blocks block high)
+with_blocks block (fork question low high) = fork question (with_blocks block low) (with_blocks block high)
+with_blocks block (switch cases last) = switch (cases_by block cases) (block last)
 
 -- the number by which a state is saved
 abbrev pub number_in : Halting → List State → (number : ℕ) → ℕ

@@ -1,5 +1,6 @@
 -- How a scanner gets its units: what it asks for before it reads one, and what happens at the end of the input.
 use Rattle.std.specs.Prelude.{ℕ, zero, suc, Bool, false, List, [], ◌∷◌, Option, Some, None}
+use Rattle.lx_ccode.specs.Machine.{is_among}
 use Rattle.lx_ccode.specs.declared.piece.Stmt.{Stmt}
 use Rattle.lx_ccode.specs.declared.piece.Stmt.TheVariants.{Goto, IfEnd, Need, State as Store, Try}
 
@@ -17,10 +18,12 @@ pub record Supply : Type 0 where
   pub check : (number : ℕ) → ℕ
   -- by which number what reads is stored before a refill, if that is stored
   pub stored : Option (Reader → ℕ)
+  -- what is in the sets that are tested
+  pub among : (set unit : ℕ) → Bool
 
--- all units are there from the start, and the end is not tested
+-- all units are there from the start, the end is not tested, and there is no set
 abbrev pub plain_supply : Supply
-plain_supply = record { eof = None; tries = false; check = λ number. 0; stored = None }
+plain_supply = record { eof = None; tries = false; check = λ number. 0; stored = None; among = is_among [] }
 
 -- what reads is stored, and then the rest
 abbrev pub store_code : Option (Reader → ℕ) → Reader → List Stmt → List Stmt

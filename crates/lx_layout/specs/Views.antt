@@ -1,7 +1,7 @@
 -- What the definitions see of what the code holds.
 use Rattle.std.specs.Prelude.{ℕ, List, Option, map}
 use Rattle.lx_auto.specs.declared.automaton.Edge.{Edge}
-use Rattle.lx_layout.specs.TestTrees.{TestTree, fork, leaf, test}
+use Rattle.lx_layout.specs.TestTrees.{TestTree, at_most, fork, leaf, test}
 use Rattle.lx_layout.specs.TransitionClasses.{Split, Stretch}
 use Rattle.lx_layout.specs.declared.test_trees.TestTree as held_tree
 use Rattle.lx_layout.specs.declared.test_trees.TestTree.TheOpen.{TestTree-F}
@@ -31,8 +31,8 @@ seen_split split = record { tests = seen_stretches split.tests.items; last = spl
 -- one test, with the trees behind it
 abbrev pub seen_test : TestTree-F (TestTree (Option ℕ)) → TestTree (Option ℕ)
 seen_test (TestTree-F.Leaf class) = leaf class
-seen_test (TestTree-F.Test greatest class high) = test greatest class high.value
-seen_test (TestTree-F.Fork greatest low high) = fork greatest low.value high.value
+seen_test (TestTree-F.Test greatest class high) = test (at_most greatest) class high.value
+seen_test (TestTree-F.Fork greatest low high) = fork (at_most greatest) low.value high.value
 
 abbrev pub seen_tree : held_tree.TestTree → TestTree (Option ℕ)
 seen_tree = fold-TestTree (TestTree (Option ℕ)) seen_test

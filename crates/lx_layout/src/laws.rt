@@ -8,7 +8,7 @@ ghost use Rattle.lx_auto.specs.declared.automaton.Edge.{Edge};
 ghost use Rattle.lx_auto.specs.declared.automaton.State.{State};
 ghost use Rattle.lx_base.specs.Spelling.{greatest_unit};
 ghost use Rattle.lx_base.specs.declared.settings.Enc.{Enc};
-ghost use Rattle.lx_ccode.specs.Machine.{Answer, Machine, code_at, looped, unit_at};
+ghost use Rattle.lx_ccode.specs.Machine.{Answer, Machine, code_at, is_among, looped, unit_at};
 ghost use Rattle.lx_ccode.specs.Runs.{entry_block, run_of};
 ghost use Rattle.lx_ccode.specs.Scanners.{CheckAtMost, IsMadeBy, IsOfScanner, StandsIn};
 ghost use Rattle.lx_ccode.specs.Schedules.{Schedule};
@@ -62,14 +62,14 @@ pub fn supplied_layouts_serve()
     ensures blocks { (supply : Supply) (halting : Halting) (endings : ℕ → Ending) (end_rule : Option ℕ) (greatest : ℕ) (trees : Reader → TestTree (Option ℕ)) (auto : Auto)
         (begin : ℕ) (blocks : List (List Stmt)) → IsAuto auto
         → All (λ (state : State). All (λ (edge : Edge). edge.hi ≤ greatest) state.edges) auto.states → AreAgreed auto.states
-        → (IsSome end_rule → IsSome supply.eof) → EachReader PicksAs supply.eof greatest trees auto → AreHalting supply.eof end_rule greatest auto halting
+        → (IsSome end_rule → IsSome supply.eof) → EachReader (PicksAs supply.among) supply.eof greatest trees auto → AreHalting supply.eof end_rule greatest auto halting
         → StandsFrom blocks begin (supplied_layout supply halting endings end_rule trees auto begin)
         → supplied.Serves supply halting endings greatest auto blocks (layouts.place_of supply halting end_rule trees auto begin) (number_in halting auto.states)
         (layouts.rule_block supply halting end_rule trees auto begin) (layouts.fall_block supply halting end_rule trees auto begin) end_rule }
     ensures entry { (supply : Supply) (halting : Halting) (endings : ℕ → Ending) (end_rule : Option ℕ) (greatest : ℕ) (trees : Reader → TestTree (Option ℕ)) (auto : Auto)
         (begin : ℕ) (blocks : List (List Stmt)) → IsAuto auto
         → All (λ (state : State). All (λ (edge : Edge). edge.hi ≤ greatest) state.edges) auto.states
-        → (IsSome end_rule → IsSome supply.eof) → EachReader PicksAs supply.eof greatest trees auto → AreHalting supply.eof end_rule greatest auto halting
+        → (IsSome end_rule → IsSome supply.eof) → EachReader (PicksAs supply.among) supply.eof greatest trees auto → AreHalting supply.eof end_rule greatest auto halting
         → StandsFrom blocks begin (supplied_layout supply halting endings end_rule trees auto begin)
         → ServesEntry supply halting endings greatest auto blocks (layouts.place_of supply halting end_rule trees auto begin) (number_in halting auto.states)
         (layouts.rule_block supply halting end_rule trees auto begin) (layouts.fall_block supply halting end_rule trees auto begin) end_rule
@@ -82,7 +82,7 @@ pub fn supplied_layouts_are_right()
     ensures { (policy : Policy) (mode : Mode) (enc : Enc) (patterns : List Pattern) (auto : Auto) (trees : Reader → TestTree (Option ℕ))
         (endings : ℕ → Ending) (supply : Supply) (halting : Halting) (piece : Piece) (begin : ℕ) (cond : List ℕ)
         → IsAutoUnder policy enc patterns auto → HaveEndings enc patterns endings
-        → EachReader PicksAs supply.eof (greatest_unit enc) trees auto
+        → EachReader (PicksAs supply.among) supply.eof (greatest_unit enc) trees auto
         → AreHalting supply.eof (end_rule patterns) (greatest_unit enc) auto halting
         → StandsFrom (code_of piece.blocks) begin (supplied_layout supply halting endings (end_rule patterns) trees auto begin)
         → (IsSome (end_rule patterns) → IsSome supply.eof) → IsSupplied mode supply auto piece
@@ -129,7 +129,8 @@ pub fn supplied_layouts_carry_automata()
         → AreHalting supply.eof end_rule greatest auto halting
         → StandsFrom (code_of piece.blocks) begin (supplied_layout supply halting endings end_rule trees auto begin)
         → (supply.stored ≡ None) ⊎ AreOnce (states_from 0 piece.blocks)
-        → piece.eof ≡ supply.eof → ((unit : ℕ) → IsUnitOf piece unit → unit ≤ greatest)
+        → piece.eof ≡ supply.eof → ((set unit : ℕ) → supply.among set unit ≡ is_among piece.table set unit)
+        → ((unit : ℕ) → IsUnitOf piece unit → unit ≤ greatest)
         → AllByRecursion (λ code. AllByRecursion (NamesItsOwn auto) code) (supplied_layout supply halting endings end_rule trees auto begin)
         → Carries piece (layouts.entry_of supply halting end_rule trees auto begin) endings auto }
 {}
@@ -147,11 +148,11 @@ pub fn tests_of_a_unit_are_few()
     ensures runs { (split : Split) (tree : TestTree (Option ℕ)) → IsTreeOf split tree → 2 ^ depth tree ≤ 2 * suc (length split.tests) + 1 }
     ensures made { (piece : Piece) (stream : List ℕ) (tree : TestTree ℕ) (next unit : ℕ) (to : List Stmt) (machine : Machine) (answers : List Answer)
         → StandsFrom (code_of piece.blocks) next (inner_blocks next tree)
-        → unit_at piece.eof stream machine.cursor machine.limit ≡ Some unit → slice_get (code_of piece.blocks) (picked tree unit) ≡ Some to
+        → unit_at piece.eof stream machine.cursor machine.limit ≡ Some unit → slice_get (code_of piece.blocks) (picked (is_among piece.table) tree unit) ≡ Some to
         → ComesTo piece stream (Peek ∷ tree_code next tree) machine answers unit (depth tree) to }
     ensures ways { (first end : ℕ) (split : Split) (tree : TestTree (Option ℕ)) → IsTreeOf split tree
         → (depth (numbered first end tree) ≡ depth tree)
-        × ((unit : ℕ) → picked (numbered first end tree) unit ≡ class_block first end (split_class split unit)) }
+        × ((sets : (set unit : ℕ) → Bool) (unit : ℕ) → picked sets (numbered first end tree) unit ≡ class_block first end (split_class split unit)) }
 {}
 
 /// Rules of which none is `$` have the ends that the law of layouts asks for, whatever their actions are: where they are within the
@@ -229,7 +230,8 @@ pub fn supplied_pieces_carry_automata()
         (fall : ℕ) (end_rule : Option ℕ)
         → supplied.Serves supply halting endings greatest auto (code_of piece.blocks) place saved rules fall end_rule
         → ServesEntry supply halting endings greatest auto (code_of piece.blocks) place saved rules fall end_rule entry
-        → IsAuto auto → piece.eof ≡ supply.eof → ((unit : ℕ) → IsUnitOf piece unit → unit ≤ greatest)
+        → IsAuto auto → piece.eof ≡ supply.eof → ((set unit : ℕ) → supply.among set unit ≡ is_among piece.table set unit)
+        → ((unit : ℕ) → IsUnitOf piece unit → unit ≤ greatest)
         → ((state other : ℕ) → HasEdge auto state → HasEdge auto other → place state ≡ place other → state ≡ other)
         → ((block : ℕ) → IsOfScanner piece.blocks entry block → StandsIn piece.blocks block Peek
         → (block ≡ entry) ⊎ ((state : ℕ) × HasEdge auto state × (place state ≡ block)))

@@ -1,19 +1,43 @@
 -- Trees of the tests of a split, put together from those of its parts.
-use Rattle.std.specs.Prelude.{◌≡◌, ℕ, suc, ◌+◌, ◌*◌, ◌^◌, ◌<◌, ◌≤◌, List, [], ◌∷◌, ◌++◌, length, Option, Bool, true, false, nat_le, refl, if◌then◌else◌}
+use Rattle.std.specs.Prelude.{◌≡◌, ℕ, suc, ◌+◌, ◌*◌, ◌^◌, ◌<◌, ◌≤◌, List, [], ◌∷◌, ◌++◌, length, map, Option, Bool, true, false, nat_le, refl, if◌then◌else◌}
 use Rattle.std.proofs.Common.{inl, inr, sym, ap, ap₂, ◌∙◌, arith, leb-false}
 use Rattle.std.proofs.Math.Nat.{pow-le-pow_right}
 use Rattle.std.proofs.lemmas.Bool.{lt-leb}
-use Rattle.lx_layout.specs.TestTrees.{Ascend, EachTest, HasEnd, HasWay, IsTreeOf, IsTreeWithin, TestTree, class_on, depth, fork, leaf, test}
+use Rattle.lx_layout.specs.TestTrees as trees
+use Rattle.lx_layout.specs.TestTrees.{Ascend, Asked, AsksAtMost, EachTest, HasEnd, HasWay, IsPlain, IsTreeOf, IsTreeWithin, TestTree, TestsWithin, among, at_most, by_cases, by_question, class_on, depth, fork, leaf, switch, test}
 use Rattle.lx_layout.specs.TransitionClasses.{Split, Stretch}
+use Rattle.lx_layout.proofs.BlockLayouts.Questions.{each-cases}
 
 -- ---- what holds of each test
 
 -- what follows from what holds of each test holds of each
-pub each-tests : {A : Type 0} (G H : ℕ → Type 0) (W V : A → Type 0) → ((unit : ℕ) → G unit → H unit) → ((class : A) → W class → V class)
+pub each-tests : {A : Type 0} (G H : Asked → Type 0) (W V : A → Type 0) → ((asked : Asked) → G asked → H asked) → ((class : A) → W class → V class)
     → (tree : TestTree A) → EachTest G W tree → EachTest H V tree
 each-tests G H W V f g (leaf class) h = g class h
-each-tests G H W V f g (test greatest class high) h = (f greatest h.0, g class h.1, each-tests G H W V f g high h.2)
-each-tests G H W V f g (fork greatest low high) h = (f greatest h.0, each-tests G H W V f g low h.1, each-tests G H W V f g high h.2)
+each-tests G H W V f g (test question class high) h = (f (by_question question) h.0, g class h.1, each-tests G H W V f g high h.2)
+each-tests G H W V f g (fork question low high) h = (f (by_question question) h.0, each-tests G H W V f g low h.1, each-tests G H W V f g high h.2)
+each-tests G H W V f g (switch cases last) h = (f (by_cases (map (λ case. case.0) cases)) h.0, each-cases W V g cases h.1, g last h.2)
+
+-- what is so of greatest units
+pub asks-more : (G H : ℕ → Type 0) → ((unit : ℕ) → G unit → H unit) → (asked : Asked) → AsksAtMost G asked → AsksAtMost H asked
+asks-more G H f (by_question (at_most greatest)) h = f greatest h
+asks-more G H f (by_question (trees.is unit)) h = absurd h
+asks-more G H f (by_question (among set)) h = absurd h
+asks-more G H f (by_cases units) h = absurd h
+
+-- from greatest units to all that is asked
+pub asked-at_most : (G : ℕ → Type 0) (H : Asked → Type 0) → ((unit : ℕ) → G unit → H (by_question (at_most unit))) → (asked : Asked)
+    → AsksAtMost G asked → H asked
+asked-at_most G H f (by_question (at_most greatest)) h = f greatest h
+asked-at_most G H f (by_question (trees.is unit)) h = absurd h
+asked-at_most G H f (by_question (among set)) h = absurd h
+asked-at_most G H f (by_cases units) h = absurd h
+
+-- a tree of the tests of a split is plain
+pub IsPlain-within : (split : Split) (tree : TestTree (Option ℕ)) → TestsWithin split tree → IsPlain tree
+IsPlain-within split tree within =
+    each-tests (AsksAtMost (HasEnd split.tests)) (AsksAtMost (λ greatest. Unit {0})) (HasWay split.tests split.last) (λ class. Unit {0})
+    (asks-more (HasEnd split.tests) (λ greatest. Unit {0}) (λ unit has. tt)) (λ class has. tt) tree within
 
 HasEnd-front : (low high : List Stretch) (unit : ℕ) → HasEnd low unit → HasEnd (low ++ high) unit
 HasEnd-front [] high unit h = absurd h
@@ -83,18 +107,19 @@ class_on-middle from low middle high last unit h = by (nat_le unit middle.greate
 -- ---- trees
 
 pub within_none : (most : ℕ) (last : Option ℕ) → IsTreeWithin most (record { tests = []; last = last }) (leaf last)
-within_none most last = record { picks = λ unit. refl; ends = refl; few = omega arith }
+within_none most last = record { picks = λ sets unit. refl; ends = refl; few = omega arith }
 
 -- the first test comes first
 pub within_first : (most : ℕ) (first : Stretch) (high : List Stretch) (last : Option ℕ) (above : TestTree (Option ℕ))
     → IsTreeWithin most (record { tests = high; last = last }) above
-    → IsTreeWithin (suc most) (record { tests = first ∷ high; last = last }) (test first.greatest first.class above)
+    → IsTreeWithin (suc most) (record { tests = first ∷ high; last = last }) (test (at_most first.greatest) first.class above)
 within_first most first high last above is = record {
-  picks = λ unit. ap (λ class. if nat_le unit first.greatest then first.class else class) (is.picks unit);
+  picks = λ sets unit. ap (λ class. if nat_le unit first.greatest then first.class else class) (is.picks sets unit);
   ends = (
     inl refl,
     inl refl,
-    each-tests (HasEnd high) (HasEnd (first ∷ high)) (HasWay high last) (HasWay (first ∷ high) last) (λ unit h. inr h) (λ class h. inr h) above is.ends,
+    each-tests (AsksAtMost (HasEnd high)) (AsksAtMost (HasEnd (first ∷ high))) (HasWay high last) (HasWay (first ∷ high) last)
+        (asks-more (HasEnd high) (HasEnd (first ∷ high)) (λ unit h. inr h)) (λ class h. inr h) above is.ends,
   );
   few = let few = is.few in omega (arith, few);
 }
@@ -103,17 +128,17 @@ within_first most first high last above is = record {
 pub within_middle : (most from : ℕ) (low : List Stretch) (middle : Stretch) (high : List Stretch) (last : Option ℕ) (below above : TestTree (Option ℕ))
     → Ascend from (low ++ middle ∷ high) → IsTreeWithin most (record { tests = low; last = middle.class }) below
     → IsTreeWithin most (record { tests = high; last = last }) above
-    → IsTreeWithin (suc most) (record { tests = low ++ middle ∷ high; last = last }) (fork middle.greatest below above)
+    → IsTreeWithin (suc most) (record { tests = low ++ middle ∷ high; last = last }) (fork (at_most middle.greatest) below above)
 within_middle most from low middle high last below above order is_below is_above = record {
-  picks = λ unit.
-      ap₂ (λ a b. if nat_le unit middle.greatest then a else b) (is_below.picks unit) (is_above.picks unit)
+  picks = λ sets unit.
+      ap₂ (λ a b. if nat_le unit middle.greatest then a else b) (is_below.picks sets unit) (is_above.picks sets unit)
       ∙ class_on-middle from low middle high last unit order;
   ends = (
     HasEnd-back low (middle ∷ high) middle.greatest (inl refl),
-    each-tests (HasEnd low) (HasEnd (low ++ middle ∷ high)) (HasWay low middle.class) (HasWay (low ++ middle ∷ high) last)
-        (HasEnd-front low (middle ∷ high)) (HasWay-front low middle high last) below is_below.ends,
-    each-tests (HasEnd high) (HasEnd (low ++ middle ∷ high)) (HasWay high last) (HasWay (low ++ middle ∷ high) last)
-        (λ unit h. HasEnd-back low (middle ∷ high) unit (inr h)) (λ class h. HasWay-back low (middle ∷ high) last class (inr h)) above is_above.ends,
+    each-tests (AsksAtMost (HasEnd low)) (AsksAtMost (HasEnd (low ++ middle ∷ high))) (HasWay low middle.class) (HasWay (low ++ middle ∷ high) last)
+        (asks-more (HasEnd low) (HasEnd (low ++ middle ∷ high)) (HasEnd-front low (middle ∷ high))) (HasWay-front low middle high last) below is_below.ends,
+    each-tests (AsksAtMost (HasEnd high)) (AsksAtMost (HasEnd (low ++ middle ∷ high))) (HasWay high last) (HasWay (low ++ middle ∷ high) last)
+        (asks-more (HasEnd high) (HasEnd (low ++ middle ∷ high)) (λ unit h. HasEnd-back low (middle ∷ high) unit (inr h))) (λ class h. HasWay-back low (middle ∷ high) last class (inr h)) above is_above.ends,
   );
   few = let few_below = is_below.few in let few_above = is_above.few in omega (arith, few_below, few_above);
 }

@@ -151,6 +151,6 @@ Ascend-edge_split greatest edges apart =
     Ascend-split_of greatest 0 (stretches (transition_classes edges) 0 edges) (Ascend-stretches (transition_classes edges) 0 edges apart)
 
 -- a tree of the tests of a state
-pub picked-tree : (greatest : ℕ) (edges : List Edge) (tree : TestTree (Option ℕ)) (unit : ℕ) → PicksAs (edge_split greatest edges) tree
-    → AreApartFrom 0 edges → unit ≤ greatest → picked tree unit ≡ edge_class (transition_classes edges) (edge_on edges unit)
-picked-tree greatest edges tree unit picks apart le = picks unit ∙ class_on-edge_split greatest edges unit apart le
+pub picked-tree : (sets : (set unit : ℕ) → Bool) (greatest : ℕ) (edges : List Edge) (tree : TestTree (Option ℕ)) (unit : ℕ)
+    → PicksAs sets (edge_split greatest edges) tree → AreApartFrom 0 edges → unit ≤ greatest → picked sets tree unit ≡ edge_class (transition_classes edges) (edge_on edges unit)
+picked-tree sets greatest edges tree unit picks apart le = picks unit ∙ class_on-edge_split greatest edges unit apart le

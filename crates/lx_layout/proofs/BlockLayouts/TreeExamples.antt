@@ -4,7 +4,7 @@ use Rattle.std.proofs.Common.{arith}
 use Rattle.lx_auto.specs.Examples.{dotted}
 use Rattle.lx_layout.specs.Examples.{any_then, any_trees, dotted_trees, letters, letters_tree, seven, seven_tree}
 use Rattle.lx_layout.specs.SuppliedLayout.{EachState}
-use Rattle.lx_layout.specs.TestTrees.{IsTreeOf, IsTreeWithin, TestTree, fork, leaf, test}
+use Rattle.lx_layout.specs.TestTrees.{IsTreeOf, IsTreeWithin, TestTree, at_most, fork, leaf, test}
 use Rattle.lx_layout.specs.TransitionClasses.{Split, Stretch}
 use Rattle.lx_layout.proofs.BlockLayouts.SplitTrees.{few_within, within_first, within_middle, within_none}
 
@@ -17,7 +17,7 @@ split_by tests last = record { tests = tests; last = last }
 -- tests one after another
 abbrev chain : List Stretch → (last : Option ℕ) → TestTree (Option ℕ)
 chain [] last = leaf last
-chain (first ∷ high) last = test first.greatest first.class (chain high last)
+chain (first ∷ high) last = test (at_most first.greatest) first.class (chain high last)
 
 within_chain : (list : List Stretch) (last : Option ℕ) → IsTreeWithin (length list) (split_by list last) (chain list last)
 within_chain [] last = within_none 0 last
@@ -25,7 +25,7 @@ within_chain (first ∷ high) last = within_first (length high) first high last 
 
 -- two ranges of a class, parted between them
 abbrev pair : (first between last : ℕ) → TestTree (Option ℕ)
-pair first between last = fork between (test first (Some 0) (leaf None)) (test last (Some 0) (leaf None))
+pair first between last = fork (at_most between) (test (at_most first) (Some 0) (leaf None)) (test (at_most last) (Some 0) (leaf None))
 
 abbrev ranges : (first between last : ℕ) → List Stretch
 ranges first between last = stretch first (Some 0) ∷ stretch between None ∷ stretch last (Some 0) ∷ []
@@ -33,16 +33,16 @@ ranges first between last = stretch first (Some 0) ∷ stretch between None ∷ 
 within_pair : (first between last : ℕ) → first ≤ between → between ≤ last
     → IsTreeWithin 2 (split_by (ranges first between last) None) (pair first between last)
 within_pair first between last below above =
-    within_middle 1 0 (stretch first (Some 0) ∷ []) (stretch between None) (stretch last (Some 0) ∷ []) None (test first (Some 0) (leaf None))
-    (test last (Some 0) (leaf None)) (omega arith, (below, (above, tt))) (within_chain (stretch first (Some 0) ∷ []) None)
+    within_middle 1 0 (stretch first (Some 0) ∷ []) (stretch between None) (stretch last (Some 0) ∷ []) None (test (at_most first) (Some 0) (leaf None))
+    (test (at_most last) (Some 0) (leaf None)) (omega arith, (below, (above, tt))) (within_chain (stretch first (Some 0) ∷ []) None)
     (within_chain (stretch last (Some 0) ∷ []) None)
 
 pub dotted_are_trees : EachState IsTreeOf None 255 dotted_trees 0 dotted.states
 dotted_are_trees = (
-  few_within 3 (split_by (stretch 96 None ∷ ranges 99 119 122) None) (test 96 None (pair 99 119 122))
+  few_within 3 (split_by (stretch 96 None ∷ ranges 99 119 122) None) (test (at_most 96) None (pair 99 119 122))
       (within_first 2 (stretch 96 None) (ranges 99 119 122) None (pair 99 119 122) (within_pair 99 119 122 (omega arith) (omega arith))) (omega arith),
   (
-    few_within 2 (split_by (stretch 45 None ∷ stretch 46 (Some 0) ∷ []) None) (test 45 None (test 46 (Some 0) (leaf None)))
+    few_within 2 (split_by (stretch 45 None ∷ stretch 46 (Some 0) ∷ []) None) (test (at_most 45) None (test (at_most 46) (Some 0) (leaf None)))
         (within_chain (stretch 45 None ∷ stretch 46 (Some 0) ∷ []) None) (omega arith),
     tt,
   ),
@@ -52,7 +52,7 @@ pub any_are_trees : EachState IsTreeOf None 255 any_trees 0 any_then.states
 any_are_trees = (
   few_within 0 (split_by [] (Some 0)) (leaf (Some 0)) (within_none 0 (Some 0)) (omega arith),
   (
-    few_within 2 (split_by (stretch 96 None ∷ stretch 122 (Some 0) ∷ []) None) (test 96 None (test 122 (Some 0) (leaf None)))
+    few_within 2 (split_by (stretch 96 None ∷ stretch 122 (Some 0) ∷ []) None) (test (at_most 96) None (test (at_most 122) (Some 0) (leaf None)))
         (within_chain (stretch 96 None ∷ stretch 122 (Some 0) ∷ []) None) (omega arith),
     tt,
   ),
@@ -73,7 +73,7 @@ letters_is_tree =
     let low : List Stretch = ranges 57 64 90 in
     let high : List Stretch = ranges 95 96 122 in
     few_within 4 letters letters_tree
-    (within_first 3 (stretch 47 None) (low ++ stretch 94 None ∷ high) None (fork 94 (pair 57 64 90) (pair 95 96 122))
+    (within_first 3 (stretch 47 None) (low ++ stretch 94 None ∷ high) None (fork (at_most 94) (pair 57 64 90) (pair 95 96 122))
     (within_middle 2 0 low (stretch 94 None) high None (pair 57 64 90) (pair 95 96 122)
     (omega arith, (omega arith, (omega arith, (omega arith, (omega arith, (omega arith, (omega arith, tt)))))))
     (within_pair 57 64 90 (omega arith) (omega arith)) (within_pair 95 96 122 (omega arith) (omega arith))))

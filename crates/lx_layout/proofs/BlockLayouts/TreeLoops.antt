@@ -3,7 +3,7 @@ use Rattle.std.specs.Prelude.{◌≡◌, ℕ, zero, suc, ◌+◌, ◌-◌, ◌*�
 use Rattle.std.proofs.Common.{Box, Global, sym, ap, subst, ◌∙◌, arith, length-drop, take-append-drop}
 use Rattle.std.proofs.Math.Nat.{pow-suc}
 use Rattle.std.proofs.lemmas.List.{drop_more, length-take-le, map-append, take_all}
-use Rattle.lx_layout.specs.TestTrees.{Ascend, IsTreeWithin, TestTree, fork, test}
+use Rattle.lx_layout.specs.TestTrees.{Ascend, IsTreeWithin, TestTree, at_most, fork, test}
 use Rattle.lx_layout.specs.Views.{seen_stretch, seen_stretches, seen_test, seen_tree}
 use Rattle.lx_layout.specs.TransitionClasses.{Stretch}
 use Rattle.lx_layout.specs.declared.test_trees.TestTree as held_tree
@@ -14,12 +14,12 @@ use Rattle.lx_layout.specs.declared.unit_splits.Stretch as held
 use Rattle.lx_layout.proofs.BlockLayouts.SplitTrees.{Ascend-back, Ascend-earlier, Ascend-front, within_first, within_middle}
 
 pub seen_tree-fork : (greatest : ℕ) (low high : Box held_tree.TestTree Global)
-    → seen_tree (Fork greatest low high) ≡ fork greatest (seen_tree low.value) (seen_tree high.value)
+    → seen_tree (Fork greatest low high) ≡ fork (at_most greatest) (seen_tree low.value) (seen_tree high.value)
 seen_tree-fork greatest low high =
     ap seen_tree (sym (rolls-Fork greatest low high)) ∙ fold-roll-TestTree (TestTree (Option ℕ)) seen_test (TestTree-F.Fork greatest low high)
 
 pub seen_tree-test : (greatest : ℕ) (class : Option ℕ) (high : Box held_tree.TestTree Global)
-    → seen_tree (Test greatest class high) ≡ test greatest class (seen_tree high.value)
+    → seen_tree (Test greatest class high) ≡ test (at_most greatest) class (seen_tree high.value)
 seen_tree-test greatest class high =
     ap seen_tree (sym (rolls-Test greatest class high)) ∙ fold-roll-TestTree (TestTree (Option ℕ)) seen_test (TestTree-F.Test greatest class high)
 
@@ -28,7 +28,7 @@ seen_tree-test greatest class high =
 -- where the first test comes first
 pub within_start : (most : ℕ) (list : List held.Stretch) (none : held.Stretch) (last : Option ℕ) (above : TestTree (Option ℕ)) → 0 < length list
     → IsTreeWithin most (record { tests = seen_stretches (drop 1 list); last = last }) above
-    → IsTreeWithin (suc most) (record { tests = seen_stretches list; last = last }) (test (get_or list 0 none).greatest (get_or list 0 none).class above)
+    → IsTreeWithin (suc most) (record { tests = seen_stretches list; last = last }) (test (at_most (get_or list 0 none).greatest) (get_or list 0 none).class above)
 within_start most [] none last above some is = absurd (omega (arith, some))
 within_start most (first ∷ list) none last above some is = within_first most (seen_stretch first) (seen_stretches list) last above is
 
@@ -57,9 +57,9 @@ module _ (list : List held.Stretch) (none : held.Stretch) (place : ℕ) (within 
   pub within_place : (most : ℕ) (last : Option ℕ) (below above : TestTree (Option ℕ))
       → IsTreeWithin most (record { tests = seen_stretches (take place list); last = (get_or list place none).class }) below
       → IsTreeWithin most (record { tests = seen_stretches (drop (place + 1) list); last = last }) above
-      → IsTreeWithin (suc most) (record { tests = seen_stretches list; last = last }) (fork (get_or list place none).greatest below above)
+      → IsTreeWithin (suc most) (record { tests = seen_stretches list; last = last }) (fork (at_most (get_or list place none).greatest) below above)
   within_place most last below above is_below is_above =
-      subst (λ l. IsTreeWithin (suc most) (record { tests = l; last = last }) (fork middle.greatest below above)) (sym parts)
+      subst (λ l. IsTreeWithin (suc most) (record { tests = l; last = last }) (fork (at_most middle.greatest) below above)) (sym parts)
       (within_middle most 0 low (seen_stretch middle) high last below above (subst (λ l. Ascend 0 l) parts order) is_below is_above)
 
 -- ---- how often a unit may be tested
@@ -134,7 +134,7 @@ module _ (tests : List held.Stretch) (place left : ℕ) (last : Option ℕ) (wit
       (subst (λ tree. IsTreeWithin left (record { tests = seen_stretches tests; last = last }) tree)
       (sym (seen_tree-test (get_or tests 0 none).greatest (get_or tests 0 none).class high))
       (subst (λ n. IsTreeWithin n (record { tests = seen_stretches tests; last = last })
-      (test (get_or tests 0 none).greatest (get_or tests 0 none).class (seen_tree high.value))) one_less tree))
+      (test (at_most (get_or tests 0 none).greatest) (get_or tests 0 none).class (seen_tree high.value))) one_less tree))
 
   pub built_fork : (low high : Box held_tree.TestTree Global)
       → IsTreeWithin (left - 1) (record { tests = seen_stretches (take place tests); last = (get_or tests place (record { greatest = 0; class = None })).class })
@@ -147,4 +147,4 @@ module _ (tests : List held.Stretch) (place left : ℕ) (last : Option ℕ) (wit
       subst (λ tree. IsTreeWithin left (record { tests = seen_stretches tests; last = last }) tree)
       (sym (seen_tree-fork (get_or tests place none).greatest low high))
       (subst (λ n. IsTreeWithin n (record { tests = seen_stretches tests; last = last })
-      (fork (get_or tests place none).greatest (seen_tree low.value) (seen_tree high.value))) one_less tree)
+      (fork (at_most (get_or tests place none).greatest) (seen_tree low.value) (seen_tree high.value))) one_less tree)

@@ -1,5 +1,5 @@
 -- What operations, tests of a unit, checks and a fallback do to the machine, over traces.
-use Rattle.std.specs.Prelude.{◌≡◌, ℕ, zero, suc, ◌+◌, ◌≤◌, Bool, true, false, List, [], ◌∷◌, length, Option, Some, None, nat_eq, nat_le, refl, slice_get, if◌then◌else◌}
+use Rattle.std.specs.Prelude.{◌≡◌, ℕ, zero, suc, ◌+◌, ◌≤◌, Bool, true, false, List, [], ◌∷◌, length, Option, Some, None, nat_eq, refl, slice_get, if◌then◌else◌}
 use Rattle.std.proofs.Common.{ap, ◌∙◌, subst, arith, le-leb}
 use Rattle.lx_auto.specs.Automaton.{AreOps}
 use Rattle.lx_auto.specs.Bank.{Bank}
@@ -8,12 +8,12 @@ use Rattle.lx_auto.specs.declared.ops.Op.{Op}
 use Rattle.lx_auto.specs.declared.ops.Op.TheVariants.{Here, Null, Copy, MHere, MNull, MCopy}
 use Rattle.lx_ccode.specs.declared.piece.Piece.{Piece}
 use Rattle.lx_ccode.specs.declared.piece.Stmt.{Stmt}
-use Rattle.lx_ccode.specs.declared.piece.Stmt.TheVariants.{Goto, IfAccept, IfUnit, Leave, Need, State as Store}
+use Rattle.lx_ccode.specs.declared.piece.Stmt.TheVariants.{Goto, IfAccept, Leave, Need, State as Store, Switch}
 use Rattle.lx_ccode.specs.Machine.{Answer, Machine, Next, goes_on, has_units, left, more, no_more, no_rule, refilled, step}
 use Rattle.lx_ccode.specs.Runs.{ended}
 use Rattle.lx_ccode.specs.Statements.{code_of}
 use Rattle.lx_ccode.specs.Traces.{is_peek, is_skip}
-use Rattle.lx_ccode.proofs.TraceSteps.{EndsSo, ends_at, ends_quiet, goto_step, saved_fails, saved_holds, test_fails, test_holds}
+use Rattle.lx_ccode.proofs.TraceSteps.{EndsSo, ends_at, ends_quiet, goto_step, saved_fails, saved_holds}
 use Rattle.lx_sequence.specs.ParallelCopies.{sequentialized}
 use Rattle.lx_sequence.specs.Turns.{after_op, after_ops}
 use Rattle.lx_layout.specs.Carries.{HasUnits}
@@ -22,8 +22,9 @@ use Rattle.lx_layout.specs.Fallback.{chosen, fallback_code}
 use Rattle.lx_layout.specs.Layout.{StandsFrom}
 use Rattle.lx_layout.specs.Stops.{bank_from}
 use Rattle.lx_layout.specs.Supplies.{Reader, need_code}
-use Rattle.lx_layout.specs.TestTrees.{TestTree, fork, inner_blocks, inner_size, leaf, picked, test, tree_code}
+use Rattle.lx_layout.specs.TestTrees.{TestTree, asks, fork, holds, inner_blocks, inner_size, leaf, picked, switch, switch_cases, test, tree_code}
 use Rattle.lx_layout.proofs.BlockLayouts.CodesInBlocks.{StandsFrom-back, StandsFrom-front}
+use Rattle.lx_layout.proofs.BlockLayouts.Questions.{FitsTable, cases_step, is_peek-asks, is_skip-asks, question_fails, question_holds}
 use Rattle.lx_layout.proofs.BlockLayouts.TreeCodes.{length-inner_blocks}
 use Rattle.lx_layout.proofs.Operations.OpBounds.{ArePositive-sequentialized}
 use Rattle.lx_layout.proofs.Runs.OperationSteps.{ArePositive, IsPositive, raised, raised-shift, updated-raised}
@@ -110,62 +111,65 @@ module _ (piece : Piece) (stream : List ℕ) (answers : List Answer) where
 
   -- ---- tests of a unit
 
-  -- the tests lead to the block that they pick
-  pub tree_walk : (tree : TestTree ℕ) (next unit : ℕ) (to : List Stmt) (machine : Machine) → machine.unit ≡ Some unit
-      → StandsFrom (code_of piece.blocks) next (inner_blocks next tree) → slice_get (code_of piece.blocks) (picked tree unit) ≡ Some to
-      → Walks piece stream 0 (tree_code next tree) machine answers to machine
-  tree_walk (leaf block) next unit to machine read stands has =
-      walk_step piece stream (Goto block) refl refl (goto_step piece stream [] machine answers block to has)
-  tree_walk (test greatest block high) next unit to machine read stands has =
-      by (nat_le unit greatest) refl has (tree_walk high next unit to machine read stands)
-    where
-      by : (t : Bool) → nat_le unit greatest ≡ t → slice_get (code_of piece.blocks) (if t then block else picked high unit) ≡ Some to
-          → (slice_get (code_of piece.blocks) (picked high unit) ≡ Some to → Walks piece stream 0 (tree_code next high) machine answers to machine)
-          → Walks piece stream 0 (IfUnit greatest block ∷ tree_code next high) machine answers to machine
-      by true low has again =
-          walk_step piece stream (IfUnit greatest block) refl refl
-          (test_holds piece stream (tree_code next high) machine answers unit read (λ other. nat_le other greatest) block to low has)
-      by false above has again =
-          walk_on piece stream
-          (walk_step piece stream (IfUnit greatest block) refl refl
-          (test_fails piece stream (tree_code next high) machine answers unit read (λ other. nat_le other greatest) block above))
-          (again has)
-  tree_walk (fork greatest low high) next unit to machine read stands has =
-      by (nat_le unit greatest) refl has (tree_walk low (suc next) unit to machine read low_stands)
-      (tree_walk high (suc next + inner_size low) unit to machine read high_stands)
-    where
-      behind : ℕ
-      behind = suc next + inner_size low
+  module _ (sets : (set unit : ℕ) → Bool) (fits : FitsTable sets piece) where
+    -- the tests lead to the block that they pick
+    pub tree_walk : (tree : TestTree ℕ) (next unit : ℕ) (to : List Stmt) (machine : Machine) → machine.unit ≡ Some unit
+        → StandsFrom (code_of piece.blocks) next (inner_blocks next tree) → slice_get (code_of piece.blocks) (picked sets tree unit) ≡ Some to
+        → Walks piece stream 0 (tree_code next tree) machine answers to machine
+    tree_walk (leaf block) next unit to machine read stands has =
+        walk_step piece stream (Goto block) refl refl (goto_step piece stream [] machine answers block to has)
+    tree_walk (test question block high) next unit to machine read stands has =
+        by (holds sets question unit) refl has (tree_walk high next unit to machine read stands)
+      where
+        by : (t : Bool) → holds sets question unit ≡ t → slice_get (code_of piece.blocks) (if t then block else picked sets high unit) ≡ Some to
+            → (slice_get (code_of piece.blocks) (picked sets high unit) ≡ Some to → Walks piece stream 0 (tree_code next high) machine answers to machine)
+            → Walks piece stream 0 (asks question block ∷ tree_code next high) machine answers to machine
+        by true low has again =
+            walk_step piece stream (asks question block) (is_peek-asks question block) (is_skip-asks question block)
+            (question_holds piece stream (tree_code next high) machine answers sets fits unit read question block to low has)
+        by false above has again =
+            walk_on piece stream
+            (walk_step piece stream (asks question block) (is_peek-asks question block) (is_skip-asks question block)
+            (question_fails piece stream (tree_code next high) machine answers sets fits unit read question block above))
+            (again has)
+    tree_walk (switch cases last) next unit to machine read stands has =
+        walk_step piece stream (Switch (switch_cases cases) last) refl refl (cases_step piece stream [] machine answers unit read cases last to has)
+    tree_walk (fork question low high) next unit to machine read stands has =
+        by (holds sets question unit) refl has (tree_walk low (suc next) unit to machine read low_stands)
+        (tree_walk high (suc next + inner_size low) unit to machine read high_stands)
+      where
+        behind : ℕ
+        behind = suc next + inner_size low
 
-      below : List (List Stmt)
-      below = inner_blocks (suc next) low
+        below : List (List Stmt)
+        below = inner_blocks (suc next) low
 
-      above : List (List Stmt)
-      above = inner_blocks (suc next + inner_size low) high
+        above : List (List Stmt)
+        above = inner_blocks (suc next + inner_size low) high
 
-      low_stands : StandsFrom (code_of piece.blocks) (suc next) (inner_blocks (suc next) low)
-      low_stands = StandsFrom-front (code_of piece.blocks) (suc next) below above stands.1
+        low_stands : StandsFrom (code_of piece.blocks) (suc next) (inner_blocks (suc next) low)
+        low_stands = StandsFrom-front (code_of piece.blocks) (suc next) below above stands.1
 
-      high_stands : StandsFrom (code_of piece.blocks) (suc next + inner_size low) (inner_blocks (suc next + inner_size low) high)
-      high_stands =
-          let e : suc next + length below ≡ suc next + inner_size low = ap (λ n. suc next + n) (length-inner_blocks (suc next) low) in
-          subst (λ n. StandsFrom (code_of piece.blocks) n above) e (StandsFrom-back (code_of piece.blocks) (suc next) below above stands.1)
+        high_stands : StandsFrom (code_of piece.blocks) (suc next + inner_size low) (inner_blocks (suc next + inner_size low) high)
+        high_stands =
+            let e : suc next + length below ≡ suc next + inner_size low = ap (λ n. suc next + n) (length-inner_blocks (suc next) low) in
+            subst (λ n. StandsFrom (code_of piece.blocks) n above) e (StandsFrom-back (code_of piece.blocks) (suc next) below above stands.1)
 
-      by : (t : Bool) → nat_le unit greatest ≡ t → slice_get (code_of piece.blocks) (if t then picked low unit else picked high unit) ≡ Some to
-          → (slice_get (code_of piece.blocks) (picked low unit) ≡ Some to → Walks piece stream 0 (tree_code (suc next) low) machine answers to machine)
-          → (slice_get (code_of piece.blocks) (picked high unit) ≡ Some to
-          → Walks piece stream 0 (tree_code (suc next + inner_size low) high) machine answers to machine)
-          → Walks piece stream 0 (IfUnit greatest next ∷ tree_code (suc next + inner_size low) high) machine answers to machine
-      by true holds has again_low again_high =
-          walk_on piece stream
-          (walk_step piece stream (IfUnit greatest next) refl refl
-          (test_holds piece stream (tree_code behind high) machine answers unit read (λ other. nat_le other greatest) next (tree_code (suc next) low) holds stands.0))
-          (again_low has)
-      by false fails has again_low again_high =
-          walk_on piece stream
-          (walk_step piece stream (IfUnit greatest next) refl refl
-          (test_fails piece stream (tree_code behind high) machine answers unit read (λ other. nat_le other greatest) next fails))
-          (again_high has)
+        by : (t : Bool) → holds sets question unit ≡ t → slice_get (code_of piece.blocks) (if t then picked sets low unit else picked sets high unit) ≡ Some to
+            → (slice_get (code_of piece.blocks) (picked sets low unit) ≡ Some to → Walks piece stream 0 (tree_code (suc next) low) machine answers to machine)
+            → (slice_get (code_of piece.blocks) (picked sets high unit) ≡ Some to
+            → Walks piece stream 0 (tree_code (suc next + inner_size low) high) machine answers to machine)
+            → Walks piece stream 0 (asks question next ∷ tree_code (suc next + inner_size low) high) machine answers to machine
+        by true answered has again_low again_high =
+            walk_on piece stream
+            (walk_step piece stream (asks question next) (is_peek-asks question next) (is_skip-asks question next)
+            (question_holds piece stream (tree_code behind high) machine answers sets fits unit read question next (tree_code (suc next) low) answered stands.0))
+            (again_low has)
+        by false failed has again_low again_high =
+            walk_on piece stream
+            (walk_step piece stream (asks question next) (is_peek-asks question next) (is_skip-asks question next)
+            (question_fails piece stream (tree_code behind high) machine answers sets fits unit read question next failed))
+            (again_high has)
 
   -- ---- checks
 

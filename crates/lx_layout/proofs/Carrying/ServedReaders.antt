@@ -16,6 +16,7 @@ use Rattle.lx_layout.specs.Layout.{StandsFrom}
 use Rattle.lx_layout.specs.Supplied.{ServesReader, at_end, by_jump, by_tests, itself}
 use Rattle.lx_layout.specs.Supplies.{Reader, Supply, end_test, need_code}
 use Rattle.lx_layout.specs.TestTrees.{TestTree, inner_blocks, picked, tree_code}
+use Rattle.lx_layout.proofs.BlockLayouts.Questions.{FitsTable}
 use Rattle.lx_layout.proofs.Carrying.MachineSteps.{need_walk, tree_walk}
 use Rattle.lx_layout.proofs.Carrying.SilentTraces.{Walks, stays, walk_on, walk_peek, walk_step}
 
@@ -51,16 +52,17 @@ module _ (piece : Piece) (stream : List ℕ) (answers : List Answer) where
     reader_code (itself none unchecked leads) = target_code 0 block (leads 0 (omega arith))
     reader_code (at_end eof is tree next to asked has stands leads test leads_eof ends) = (Peek ∷ tree_code next tree, has)
 
-    module _ (machine : Machine) (unit : ℕ) (here : slice_get stream machine.cursor ≡ Some unit) where
+    module _ (fits : FitsTable supply.among piece) (machine : Machine) (unit : ℕ)
+        (here : slice_get stream machine.cursor ≡ Some unit) where
       -- by a check, a read and tests
-      tests_enter : (tree : TestTree ℕ) (next : ℕ) → StandsFrom (code_of piece.blocks) next (inner_blocks next tree) → Leads unit (picked tree unit)
+      tests_enter : (tree : TestTree ℕ) (next : ℕ) → StandsFrom (code_of piece.blocks) next (inner_blocks next tree) → Leads unit (picked supply.among tree unit)
           → HasUnits (need_code supply.stored reader units (Peek ∷ tree_code next tree)) machine
           → Enters (need_code supply.stored reader units (Peek ∷ tree_code next tree)) machine (Leads unit)
       tests_enter tree next stands leads enough =
-          let to = target_code unit (picked tree unit) leads in
+          let to = target_code unit (picked supply.among tree unit) leads in
           let checks = need_walk piece stream answers supply.stored reader units (Peek ∷ tree_code next tree) machine enough in
           record {
-            block = picked tree unit;
+            block = picked supply.among tree unit;
             target = leads;
             to = to.0;
             has = to.1;
@@ -70,7 +72,7 @@ module _ (piece : Piece) (stream : List ℕ) (answers : List Answer) where
             unit = Some unit;
             walks = walk_on piece stream checks.1
                 (walk_on piece stream (walk_peek piece stream unit (lt-ltb machine.cursor machine.limit enough.one) here)
-                (tree_walk piece stream answers tree next unit to.0 (record machine { state = checks.0; unit = Some unit }) refl stands to.1));
+                (tree_walk piece stream answers supply.among fits tree next unit to.0 (record machine { state = checks.0; unit = Some unit }) refl stands to.1));
           }
 
       jump_enters : (to : ℕ) → Leads unit to → HasUnits (need_code supply.stored reader units (Goto to ∷ [])) machine
@@ -94,7 +96,7 @@ module _ (piece : Piece) (stream : List ℕ) (answers : List Answer) where
 
       -- where a unit stands at the end, a unit of the input is told apart from it
       end_enters : (eof : ℕ) (tree : TestTree ℕ) (next to asked : ℕ) → StandsFrom (code_of piece.blocks) next (inner_blocks next tree)
-          → ((unit ≡ eof → ⊥) → Leads unit (picked tree unit)) → code_at piece.blocks (Some (picked tree eof)) ≡ Some (end_test asked to)
+          → ((unit ≡ eof → ⊥) → Leads unit (picked supply.among tree unit)) → code_at piece.blocks (Some (picked supply.among tree eof)) ≡ Some (end_test asked to)
           → (unit ≡ eof → Leads unit to) → HasUnits (Peek ∷ tree_code next tree) machine → Enters (Peek ∷ tree_code next tree) machine (Leads unit)
       end_enters eof tree next to asked stands leads test leads_eof enough = by (nat_eq unit eof) refl where
         peek : Walks piece stream 1 (Peek ∷ tree_code next tree) machine answers (tree_code next tree) (record machine { unit = Some unit })
@@ -103,9 +105,9 @@ module _ (piece : Piece) (stream : List ℕ) (answers : List Answer) where
         by : (t : Bool) → nat_eq unit eof ≡ t → Enters (Peek ∷ tree_code next tree) machine (Leads unit)
         by false differs =
             let target = leads (λ same. true≢false (sym (eq-eqb unit eof same) ∙ differs)) in
-            let code = target_code unit (picked tree unit) target in
+            let code = target_code unit (picked supply.among tree unit) target in
             record {
-              block = picked tree unit;
+              block = picked supply.among tree unit;
               target = target;
               to = code.0;
               has = code.1;
@@ -114,13 +116,13 @@ module _ (piece : Piece) (stream : List ℕ) (answers : List Answer) where
               state = machine.state;
               unit = Some unit;
               walks = walk_on piece stream peek
-                  (tree_walk piece stream answers tree next unit code.0 (record machine { unit = Some unit }) refl stands code.1);
+                  (tree_walk piece stream answers supply.among fits tree next unit code.0 (record machine { unit = Some unit }) refl stands code.1);
             }
         by true is =
             let same = eqb-true unit eof is in
             let code = target_code unit to (leads_eof same) in
-            let tested : slice_get (code_of piece.blocks) (picked tree unit) ≡ Some (end_test asked to) =
-            ap (λ n. slice_get (code_of piece.blocks) (picked tree n)) same ∙ test in
+            let tested : slice_get (code_of piece.blocks) (picked supply.among tree unit) ≡ Some (end_test asked to) =
+            ap (λ n. slice_get (code_of piece.blocks) (picked supply.among tree n)) same ∙ test in
             record {
               block = to;
               target = leads_eof same;
@@ -132,7 +134,7 @@ module _ (piece : Piece) (stream : List ℕ) (answers : List Answer) where
               unit = Some unit;
               walks = walk_on piece stream peek
                   (walk_on piece stream
-                  (tree_walk piece stream answers tree next unit (end_test asked to) (record machine { unit = Some unit }) refl stands tested)
+                  (tree_walk piece stream answers supply.among fits tree next unit (end_test asked to) (record machine { unit = Some unit }) refl stands tested)
                   (walk_on piece stream
                   (walk_step piece stream (IfEnd asked) refl refl
                   (end_step piece stream asked (Goto to ∷ []) (record machine { unit = Some unit }) answers

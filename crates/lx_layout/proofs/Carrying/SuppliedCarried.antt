@@ -25,6 +25,7 @@ use Rattle.lx_layout.specs.Supplied.{EndsBy, IsEnd, IsTarget, Serves, ServesEntr
 use Rattle.lx_layout.specs.Halting.{Halting, is_entered, is_saved}
 use Rattle.lx_layout.specs.Supplies.{Reader, Supply}
 use Rattle.lx_layout.specs.Supplies as supplies
+use Rattle.lx_layout.proofs.BlockLayouts.Questions.{FitsTable}
 use Rattle.lx_layout.proofs.Supplied.EnteredStates.{behind_entry, entered-lone}
 use Rattle.lx_layout.proofs.Carrying.ServedEdges.{edge_leads, passed, passed_stands}
 use Rattle.lx_layout.proofs.Carrying.ServedEnds.{stop_ends}
@@ -43,7 +44,8 @@ block_within (first ∷ blocks) (suc block) code is = let within = block_within 
 
 module _ (supply : Supply) (halting : Halting) (endings : ℕ → Ending) (greatest : ℕ) (auto : Auto) (piece : Piece) (place saved rules : ℕ → ℕ) (fall : ℕ)
     (end_rule : Option ℕ) (entry : ℕ) (serves : Serves supply halting endings greatest auto (code_of piece.blocks) place saved rules fall end_rule)
-    (serves_entry : ServesEntry supply halting endings greatest auto (code_of piece.blocks) place saved rules fall end_rule entry) (formed : IsAuto auto) where
+    (serves_entry : ServesEntry supply halting endings greatest auto (code_of piece.blocks) place saved rules fall end_rule entry) (formed : IsAuto auto)
+    (fits : FitsTable supply.among piece) where
   abbrev state_at : ℕ → State
   state_at number = state_of auto.states number
 
@@ -179,7 +181,7 @@ module _ (supply : Supply) (halting : Halting) (endings : ℕ → Ending) (great
             (reader_enters piece stream answers supply halting endings greatest auto place saved rules fall reader units block
             (λ unit to. Target standing.state (edge_on (state_at standing.state).edges unit) to) Stops
             (λ unit to. target_code standing.state usual.state (edge_on (state_at standing.state).edges unit) to)
-            machine unit here code.0 reader_serves code.1 enough (within unit of_piece));
+            fits machine unit here code.0 reader_serves code.1 enough (within unit of_piece));
       }
 
   no_edge : (number unit : ℕ) → (state_at number).edges ≡ [] → edge_on (state_at number).edges unit ≡ None

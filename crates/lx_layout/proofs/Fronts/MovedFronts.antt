@@ -211,7 +211,8 @@ behind-is : (stored : ℕ) (other supply : Supply) → SuppliesBehind stored oth
 behind-is stored other supply behind =
     ap (λ eof. record other { eof = eof }) behind.eof
     ∙ (ap (λ tries. record other { eof = supply.eof; tries = tries }) behind.tries
-    ∙ ap (λ check. record other { eof = supply.eof; tries = supply.tries; check = check }) behind.check)
+    ∙ (ap (λ check. record other { eof = supply.eof; tries = supply.tries; check = check }) behind.check
+    ∙ ap (λ sets. record other { eof = supply.eof; tries = supply.tries; check = supply.check; among = sets }) behind.among))
 
 pub front-moved : (stored : ℕ) (other supply : Supply) → SuppliesBehind stored other supply → (halting : Halting) (end_rule : Option ℕ)
     (trees : Reader → TestTree (Option ℕ)) (auto : Auto) (begin by : ℕ)

@@ -1,11 +1,12 @@
 -- The blocks of what reads a unit, and those for the end of the input, move as those that they lead to.
-use Rattle.std.specs.Prelude.{◌≡◌, ℕ, zero, suc, ◌+◌, Bool, true, false, [], ◌∷◌, map, Option, Some, None, refl}
+use Rattle.std.specs.Prelude.{◌≡◌, ℕ, zero, suc, ◌+◌, Bool, true, false, List, [], ◌∷◌, map, Option, Some, None, refl}
 use Rattle.std.proofs.Common.{ap, ap₂, arith}
-use Rattle.lx_ccode.specs.declared.piece.Stmt.TheVariants.{Goto, IfUnit, Peek}
-use Rattle.lx_layout.specs.Copies.{StoredBehind, moved, moved_codes}
+use Rattle.lx_ccode.specs.declared.piece.Stmt.TheVariants.{Goto, IfIs, IfSet, IfUnit, Peek, Switch}
+use Rattle.lx_layout.specs.Copies.{StoredBehind, moved, moved_case, moved_codes}
 use Rattle.lx_layout.specs.SuppliedLayout.{blocks_at_end, check_blocks, read_blocks, reader_blocks, refill_blocks, with_blocks}
 use Rattle.lx_layout.specs.Supplies.{Reader}
-use Rattle.lx_layout.specs.TestTrees.{TestTree, fork, inner_blocks, inner_size, leaf, test, tree_code}
+use Rattle.lx_layout.specs.TestTrees as trees
+use Rattle.lx_layout.specs.TestTrees.{Question, TestTree, among, asks, at_most, cases_by, fork, inner_blocks, inner_size, leaf, switch, switch_cases, test, tree_code}
 use Rattle.lx_layout.proofs.Fronts.MovedCodes.{append-moved, back_code-moved, end_test-moved, need_code-moved, try_code-moved}
 use Rattle.lx_layout.proofs.SuppliedLayouts.Readers.{inner_size-with_blocks}
 
@@ -20,21 +21,35 @@ module _ (by stored : ℕ) (block block_on : Option ℕ → ℕ) (blocks_move : 
       let b = inner_size-with_blocks block_on low in
       omega (arith, e, a, b)
 
+  asks-moved : (question : Question) (at at_on : ℕ) → at_on ≡ at + by → asks question at_on ≡ moved by stored (asks question at)
+  asks-moved (at_most greatest) at at_on e = ap (λ n. IfUnit greatest n) e
+  asks-moved (trees.is unit) at at_on e = ap (λ n. IfIs unit n) e
+  asks-moved (among set) at at_on e = ap (λ n. IfSet set n) e
+
+  cases-moved : (cases : List (List ℕ × Option ℕ))
+      → switch_cases (cases_by block_on cases) ≡ map (moved_case by) (switch_cases (cases_by block cases))
+  cases-moved [] = refl
+  cases-moved (case ∷ cases) =
+      ap₂ (λ n l. record { units = case.0; block = n } ∷ l) (blocks_move case.1) (cases-moved cases)
+
   tree_code-moved : (next next_on : ℕ) → next_on ≡ next + by → (tree : TestTree (Option ℕ))
       → tree_code next_on (with_blocks block_on tree) ≡ map (moved by stored) (tree_code next (with_blocks block tree))
   tree_code-moved next next_on e (leaf class) = ap (λ n. Goto n ∷ []) (blocks_move class)
-  tree_code-moved next next_on e (test greatest class high) =
-      ap₂ (λ n code. IfUnit greatest n ∷ code) (blocks_move class) (tree_code-moved next next_on e high)
-  tree_code-moved next next_on e (fork greatest low high) =
-      ap₂ (λ n code. IfUnit greatest n ∷ code) e
+  tree_code-moved next next_on e (switch cases last) =
+      ap₂ (λ c l. Switch c l ∷ []) (cases-moved cases) (blocks_move last)
+  tree_code-moved next next_on e (test question class high) =
+      ap₂ (λ s code. s ∷ code) (asks-moved question (block class) (block_on class) (blocks_move class)) (tree_code-moved next next_on e high)
+  tree_code-moved next next_on e (fork question low high) =
+      ap₂ (λ s code. s ∷ code) (asks-moved question next next_on e)
       (tree_code-moved (suc next + inner_size (with_blocks block low)) (suc next_on + inner_size (with_blocks block_on low))
       (high-moved next next_on e low) high)
 
   inner_blocks-moved : (next next_on : ℕ) → next_on ≡ next + by → (tree : TestTree (Option ℕ))
       → inner_blocks next_on (with_blocks block_on tree) ≡ moved_codes by stored (inner_blocks next (with_blocks block tree))
   inner_blocks-moved next next_on e (leaf class) = refl
-  inner_blocks-moved next next_on e (test greatest class high) = inner_blocks-moved next next_on e high
-  inner_blocks-moved next next_on e (fork greatest low high) =
+  inner_blocks-moved next next_on e (switch cases last) = refl
+  inner_blocks-moved next next_on e (test question class high) = inner_blocks-moved next next_on e high
+  inner_blocks-moved next next_on e (fork question low high) =
       let s : suc next_on ≡ suc next + by = omega (arith, e) in
       ap₂ (λ a b. a ∷ b) (tree_code-moved (suc next) (suc next_on) s low)
       (append-moved by stored (inner_blocks (suc next) (with_blocks block low))
@@ -72,9 +87,10 @@ module _ (by stored : ℕ) (block block_on : Option ℕ → ℕ) (blocks_move : 
         → reader_blocks numbers_on reader eof units from_on (with_blocks block_on tree)
         ≡ moved_codes by stored (reader_blocks numbers reader eof units from (with_blocks block tree))
     reader_blocks-moved None units from from_on e (leaf class) = check_blocks-moved units (block class) (block_on class) (blocks_move class)
-    reader_blocks-moved None units from from_on e (test greatest class high) =
-        read_blocks-moved units from from_on e (test greatest class high)
-    reader_blocks-moved None units from from_on e (fork greatest low high) = read_blocks-moved units from from_on e (fork greatest low high)
+    reader_blocks-moved None units from from_on e (test question class high) =
+        read_blocks-moved units from from_on e (test question class high)
+    reader_blocks-moved None units from from_on e (fork question low high) = read_blocks-moved units from from_on e (fork question low high)
+    reader_blocks-moved None units from from_on e (switch cases last) = read_blocks-moved units from from_on e (switch cases last)
     reader_blocks-moved (Some eof) units from from_on e tree = read_blocks-moved 0 from from_on e tree
 
 -- ---- the end of the input

@@ -21,7 +21,7 @@ module _ (demand : Demand) (end_rule other : Option ℕ) (auto auto_on : Auto)
   stored_from-behind true = number_of-behind
 
   supply_from-behind : SuppliesBehind first (supply_from demand other auto_on first) (supply_from demand end_rule auto 0)
-  supply_from-behind = record { eof = refl; tries = refl; check = refl; numbers = stored_from-behind demand.stores }
+  supply_from-behind = record { eof = refl; tries = refl; check = refl; numbers = stored_from-behind demand.stores; among = refl }
 
 pub supplies-renumbered : (by : ℕ) (demand : Demand) (end_rule other : Option ℕ) → is_some other ≡ is_some end_rule → (auto : Auto)
     (first : ℕ)

@@ -10,9 +10,10 @@ use Rattle.lx_layout.specs.declared.readers.Exits.{Exits}
 use Rattle.lx_layout.specs.declared.state_plans.PartPlans.{PartPlans}
 use Rattle.lx_layout.specs.SuppliedLayout.{kept, read_blocks, reader_blocks, with_blocks}
 use Rattle.lx_layout.specs.Supplies.{Reader, entry, state}
-use Rattle.lx_layout.specs.TestTrees.{TestTree, fork, leaf, test}
+use Rattle.lx_layout.specs.TestTrees.{TestTree, fork, leaf, switch, test}
 use Rattle.lx_layout.specs.TransitionClasses.{same_place, transition_classes}
 use Rattle.lx_layout.specs.Ways.{constant, way_of}
+use Rattle.lx_layout.proofs.BlockLayouts.Questions.{cases_by-same}
 
 -- ---- by a number
 
@@ -37,17 +38,19 @@ module _ (demand : Demand) (end_rule : Option ℕ) (auto : Auto) (first : ℕ) (
   reader-same true None zero from (leaf block) = refl
   reader-same false None (suc units) from (leaf block) = refl
   reader-same true None (suc units) from (leaf block) = refl
-  reader-same stores None units from (test greatest block high) = read-same stores units from (test greatest block high)
-  reader-same stores None units from (fork greatest low high) = read-same stores units from (fork greatest low high)
+  reader-same stores None units from (test question block high) = read-same stores units from (test question block high)
+  reader-same stores None units from (fork question low high) = read-same stores units from (fork question low high)
+  reader-same stores None units from (switch cases last) = read-same stores units from (switch cases last)
 
 -- ---- where tests lead
 
 pub with_blocks-same : (a b : Option ℕ → ℕ) → ((class : Option ℕ) → a class ≡ b class) → (tree : TestTree (Option ℕ))
     → with_blocks a tree ≡ with_blocks b tree
 with_blocks-same a b same (leaf class) = ap leaf (same class)
-with_blocks-same a b same (test greatest class high) = ap₂ (λ w t. test greatest w t) (same class) (with_blocks-same a b same high)
-with_blocks-same a b same (fork greatest low high) =
-    ap₂ (λ l h. fork greatest l h) (with_blocks-same a b same low) (with_blocks-same a b same high)
+with_blocks-same a b same (switch cases last) = ap₂ (λ c l. switch c l) (cases_by-same a b same cases) (same last)
+with_blocks-same a b same (test question class high) = ap₂ (λ w t. test question w t) (same class) (with_blocks-same a b same high)
+with_blocks-same a b same (fork question low high) =
+    ap₂ (λ l h. fork question l h) (with_blocks-same a b same low) (with_blocks-same a b same high)
 
 -- the place behind those of the classes
 pub way-same : (first end count turn : ℕ) → turn ≡ first + count → (class : Option ℕ)

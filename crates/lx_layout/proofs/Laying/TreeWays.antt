@@ -6,21 +6,22 @@ use Rattle.lx_ccode.specs.declared.piece.Stmt.{Stmt}
 use Rattle.lx_ccode.specs.declared.piece.Stmt.TheVariants.{IfUnit}
 use Rattle.lx_layout.specs.Plans.{unlabelled}
 use Rattle.lx_layout.specs.SuppliedLayout.{with_blocks}
-use Rattle.lx_layout.specs.TestTrees.{TestTree, fork, inner_blocks, inner_size, leaf, test, tree_code}
+use Rattle.lx_layout.specs.TestTrees.{TestTree, at_most, fork, inner_blocks, inner_size, leaf, switch, test, tree_code}
 use Rattle.lx_layout.proofs.BlockLayouts.BlockLoops.{unlabelled-append}
 
 module _ (block : Option ℕ → ℕ) where
   pub inner_size-ways : (tree : TestTree (Option ℕ)) → inner_size (with_blocks block tree) ≡ inner_size tree
   inner_size-ways (leaf class) = refl
-  inner_size-ways (test greatest class high) = inner_size-ways high
-  inner_size-ways (fork greatest low high) = ap₂ (λ a b. suc a + b) (inner_size-ways low) (inner_size-ways high)
+  inner_size-ways (test question class high) = inner_size-ways high
+  inner_size-ways (fork question low high) = ap₂ (λ a b. suc a + b) (inner_size-ways low) (inner_size-ways high)
+  inner_size-ways (switch cases last) = refl
 
   module _ (next behind : ℕ) (low high : TestTree (Option ℕ)) (is : behind ≡ (1 + next) + inner_size low) where
     behind_is : behind ≡ suc next + inner_size (with_blocks block low)
     behind_is = is ∙ ap₂ (λ n k. n + k) (omega arith) (sym (inner_size-ways low))
 
     pub tests-more : (greatest : ℕ) (front pushed : List Stmt) → pushed ≡ front ++ IfUnit greatest next ∷ []
-        → pushed ++ tree_code behind (with_blocks block high) ≡ front ++ tree_code next (with_blocks block (fork greatest low high))
+        → pushed ++ tree_code behind (with_blocks block high) ≡ front ++ tree_code next (with_blocks block (fork (at_most greatest) low high))
     tests-more greatest front pushed put =
         ap₂ (λ l n. l ++ tree_code n (with_blocks block high)) put behind_is
         ∙ append_assoc front (IfUnit greatest next ∷ []) (tree_code (suc next + inner_size (with_blocks block low)) (with_blocks block high))
@@ -29,7 +30,7 @@ module _ (block : Option ℕ → ℕ) where
         → code ≡ tree_code inside (with_blocks block low) → put ≡ front ++ unlabelled (code ∷ [])
         → lower ≡ put ++ unlabelled (inner_blocks inside (with_blocks block low))
         → lower ++ unlabelled (inner_blocks behind (with_blocks block high))
-        ≡ front ++ unlabelled (inner_blocks next (with_blocks block (fork greatest low high)))
+        ≡ front ++ unlabelled (inner_blocks next (with_blocks block (fork (at_most greatest) low high)))
     lower-more greatest inside front put lower code inside_is code_is put_is lower_is =
         let below : TestTree ℕ = with_blocks block low in
         let above : TestTree ℕ = with_blocks block high in

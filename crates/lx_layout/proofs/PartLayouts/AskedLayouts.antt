@@ -13,7 +13,8 @@ use Rattle.lx_layout.specs.Endings.{Ending}
 use Rattle.lx_layout.specs.Halting.{Halting}
 use Rattle.lx_layout.specs.SuppliedLayout.{blocks_at_end, read_blocks, reader_blocks, supplied_layout}
 use Rattle.lx_layout.specs.Supplies.{Reader, Supply, need_code}
-use Rattle.lx_layout.specs.TestTrees.{TestTree, fork, inner_blocks, leaf, test, tree_code}
+use Rattle.lx_layout.specs.TestTrees.{TestTree, fork, inner_blocks, leaf, switch, test, tree_code}
+use Rattle.lx_layout.proofs.BlockLayouts.Questions.{any_question}
 use Rattle.lx_layout.proofs.PartLayouts.CalmBlocks.{Calm, IsCalm}
 use Rattle.lx_layout.proofs.PartLayouts.CalmLayouts.{calm_layout}
 use Rattle.lx_layout.proofs.PartLayouts.StatementSorts.{reader_statements}
@@ -30,7 +31,9 @@ module _ (supply : Supply) (halting : Halting) (endings : ℕ → Ending) (end_r
       (reader_statements (λ statement. is_need statement ≡ false) (λ unit. Unit {0}) (λ reader. Unit {0}) (λ units. units ≡ 0) supply
       (record {
         goes = λ block. refl;
-        unit = λ greatest block is. refl;
+        unit = λ question block is.
+            any_question (λ statement. is_need statement ≡ false) block (λ greatest. refl) (λ unit. refl) (λ set. refl) question;
+        switches = λ cases last is. refl;
         peeks = refl;
         unchecked = refl;
         needs = λ units is. absurd (omega (arith, is));
@@ -47,7 +50,9 @@ module _ (supply : Supply) (halting : Halting) (endings : ℕ → Ending) (end_r
       (reader_statements (λ statement. is_try statement ≡ false) (λ unit. Unit {0}) (λ reader. Unit {0}) (λ units. Unit {0}) supply
       (record {
         goes = λ block. refl;
-        unit = λ greatest block is. refl;
+        unit = λ question block is.
+            any_question (λ statement. is_try statement ≡ false) block (λ greatest. refl) (λ unit. refl) (λ set. refl) question;
+        switches = λ cases last is. refl;
         peeks = refl;
         unchecked = tt;
         needs = λ units is. refl;
@@ -135,8 +140,9 @@ pub checks_need : (stored : Option (Reader → ℕ)) (reader : Reader) (units fr
     → Has is_need (reader_blocks stored reader None units from tree)
 checks_need stored reader zero from tree some = absurd (some refl)
 checks_need stored reader (suc units) from (leaf block) some = ap (λ t. t || false) (need_has stored reader units (Goto block ∷ []))
-checks_need stored reader (suc units) from (test greatest block high) some = read_needs stored reader units from (test greatest block high)
-checks_need stored reader (suc units) from (fork greatest low high) some = read_needs stored reader units from (fork greatest low high)
+checks_need stored reader (suc units) from (test question block high) some = read_needs stored reader units from (test question block high)
+checks_need stored reader (suc units) from (fork question low high) some = read_needs stored reader units from (fork question low high)
+checks_need stored reader (suc units) from (switch cases last) some = read_needs stored reader units from (switch cases last)
 
 pub turn_tries : (stored : Option (Reader → ℕ)) (reader : Reader) (eof : Option ℕ) (tries : Bool) (block here : ℕ) (to : ℕ → ℕ) (end : ℕ)
     → is_some eof ≡ true → tries ≡ true → Has is_try (blocks_at_end stored reader eof tries block here to end)

@@ -20,7 +20,8 @@ use Rattle.lx_layout.specs.Endings.{Ending, action_code, cond_code, ending_code,
 use Rattle.lx_layout.specs.Halting.{Halting, ended_accepts, saved_accepts}
 use Rattle.lx_layout.specs.Layout.{end_blocks, ending_blocks, lone_blocks, restore_blocks}
 use Rattle.lx_layout.specs.SuppliedLayout.{class_blocks, end_rule_part, fallback_part}
-use Rattle.lx_layout.specs.TestTrees.{TestTree, fork, inner_blocks, inner_size, leaf, test, tree_code}
+use Rattle.lx_layout.specs.TestTrees.{Question, TestTree, asks, fork, inner_blocks, inner_size, leaf, switch, test, tree_code}
+use Rattle.lx_layout.proofs.BlockLayouts.Questions.{any_question}
 use Rattle.lx_layout.proofs.PartLayouts.EndingStatements.{EachTag, HoldsOfEnds, ending_each}
 use Rattle.lx_layout.proofs.PartLayouts.PlainBlocks.{HoldsOfPlain, OfAccept, OfAccepts, plain-classes, plain-end, plain-lone, plain-rest}
 use Rattle.lx_layout.proofs.PartLayouts.StatementSorts.{PlainStatements, plain_statements}
@@ -51,15 +52,21 @@ accept_any (Some accept) = tt
 
 -- ---- tests
 
+calm_question : (question : Question) (block : ℕ) → IsCalm (asks question block)
+calm_question question block =
+    any_question IsCalm block (λ greatest. calm refl refl refl refl) (λ unit. calm refl refl refl refl) (λ set. calm refl refl refl refl) question
+
 pub calm_tree : (next : ℕ) (tree : TestTree ℕ) → Calm (tree_code next tree)
 calm_tree next (leaf block) = (calm refl refl refl refl, tt)
-calm_tree next (test greatest block high) = (calm refl refl refl refl, calm_tree next high)
-calm_tree next (fork greatest low high) = (calm refl refl refl refl, calm_tree (suc next + inner_size low) high)
+calm_tree next (test question block high) = (calm_question question block, calm_tree next high)
+calm_tree next (fork question low high) = (calm_question question next, calm_tree (suc next + inner_size low) high)
+calm_tree next (switch cases last) = (calm refl refl refl refl, tt)
 
 pub calm_inner : (next : ℕ) (tree : TestTree ℕ) → AllByRecursion Calm (inner_blocks next tree)
 calm_inner next (leaf block) = tt
-calm_inner next (test greatest block high) = calm_inner next high
-calm_inner next (fork greatest low high) = (
+calm_inner next (switch cases last) = tt
+calm_inner next (test question block high) = calm_inner next high
+calm_inner next (fork question low high) = (
   calm_tree (suc next) low,
   each-append Calm (inner_blocks (suc next) low) (inner_blocks (suc next + inner_size low) high) (calm_inner (suc next) low)
       (calm_inner (suc next + inner_size low) high),

@@ -13,6 +13,7 @@ use Rattle.lx_layout.specs.Halting.{Halting}
 use Rattle.lx_layout.specs.SuppliedLayout.{supplied_layout}
 use Rattle.lx_layout.specs.Supplies.{Reader, Supply, entry, need_code, state, try_code}
 use Rattle.lx_layout.specs.TestTrees.{TestTree}
+use Rattle.lx_layout.proofs.BlockLayouts.Questions.{any_question}
 use Rattle.lx_layout.proofs.PartLayouts.CalmBlocks.{Calm, accept_any, all_any, calm_plain}
 use Rattle.lx_layout.proofs.PartLayouts.EachCode.{StatesAsk, codes_each}
 use Rattle.lx_layout.proofs.PartLayouts.EachStatement.{units_any}
@@ -73,7 +74,8 @@ pub readers_after : (supply : Supply)
     → HoldsOfReaders (λ code. refills_after_states code ≡ true) (λ unit. Unit {0}) (λ reader. Unit {0}) (λ units. Unit {0}) supply
 readers_after supply = record {
   leads = λ block. refl;
-  tests = λ greatest block code is h. h;
+  tests = λ question block code is h. any_question (λ statement. refills_after_states (statement ∷ code) ≡ true) block (λ greatest. h) (λ unit. h) (λ set. h) question;
+  switches = λ cases last is. refl;
   checks = λ reader units block is some. need_after supply.stored reader (suc units) (Goto block ∷ []) refl;
   reads = λ reader units code is some h. need_after supply.stored reader units (Peek ∷ code) h;
   unchecked = tt;
@@ -112,7 +114,9 @@ readers_before : (supply : Supply) (number : Reader → ℕ) → supply.stored �
     → HoldsOfReaders (λ code. states_before_refills false code ≡ true) (λ unit. Unit {0}) (λ reader. Unit {0}) (λ units. Unit {0}) supply
 readers_before supply number same = record {
   leads = λ block. refl;
-  tests = λ greatest block code is h. h;
+  tests = λ question block code is h.
+      any_question (λ statement. states_before_refills false (statement ∷ code) ≡ true) block (λ greatest. h) (λ unit. h) (λ set. h) question;
+  switches = λ cases last is. refl;
   checks = λ reader units block is some. need_before supply.stored number reader (suc units) (Goto block ∷ []) same refl;
   reads = λ reader units code is some h. need_before supply.stored number reader units (Peek ∷ code) same h;
   unchecked = tt;

@@ -15,7 +15,7 @@ use Rattle.lx_layout.specs.Endings.{Ending, ending_code}
 use Rattle.lx_layout.specs.Halting.{Halting, saved_accepts}
 use Rattle.lx_layout.specs.SuppliedLayout.{supplied_layout}
 use Rattle.lx_layout.specs.Supplies.{Reader, Supply, entry, state}
-use Rattle.lx_layout.specs.TestTrees.{TestTree, fork, leaf, test}
+use Rattle.lx_layout.specs.TestTrees.{Asked, TestTree, fork, leaf, switch, test}
 use Rattle.lx_layout.proofs.PartLayouts.EachCode.{StatesAsk, codes_each}
 use Rattle.lx_layout.proofs.PartLayouts.OwnHistories.{IsOwnOp, own_ops}
 use Rattle.lx_layout.proofs.PartLayouts.PlainBlocks.{OfAccept, OfAccepts}
@@ -23,17 +23,22 @@ use Rattle.lx_layout.proofs.PartLayouts.ReaderBlocks.{EachUnit}
 use Rattle.lx_layout.proofs.PartLayouts.StatementSorts.{OfEdge, OfEnd, OfEndRule, OfOps, PlainStatements, ReaderStatements, plain_statements, reader_statements}
 use Rattle.lx_layout.proofs.Validity.EachElement.{each-map}
 
--- nothing is asked of units
+-- nothing is demanded of what is asked
 pub units_any : {A : Type 0} (tree : TestTree A) → EachUnit (λ unit. Unit {0}) tree
 units_any (leaf class) = tt
-units_any (test greatest class high) = (tt, tt, units_any high)
-units_any (fork greatest low high) = (tt, units_any low, units_any high)
+units_any (test question class high) = (tt, tt, units_any high)
+units_any (fork question low high) = (tt, units_any low, units_any high)
+units_any {A} (switch cases last) = (tt, by cases, tt)
+  where
+    by : (cases : List (List ℕ × A)) → AllByRecursion (λ case. Unit {0}) cases
+    by [] = tt
+    by (case ∷ cases) = (tt, by cases)
 
 pub each_held : (regs mregs : ℕ) (values : List Held) → AreHeld regs mregs values → AllByRecursion (IsHeld regs mregs) values
 each_held regs mregs [] h = tt
 each_held regs mregs (value ∷ values) h = (h.0, each_held regs mregs values h.1)
 
-module _ (Q : Stmt → Type 0) (G : ℕ → Type 0) (R : Reader → Type 0) (C S : ℕ → Type 0) (supply : Supply) (halting : Halting)
+module _ (Q : Stmt → Type 0) (G : Asked → Type 0) (R : Reader → Type 0) (C S : ℕ → Type 0) (supply : Supply) (halting : Halting)
     (endings : ℕ → Ending) (end_rule : Option ℕ) (trees : Reader → TestTree (Option ℕ)) (auto : Auto) where
   -- the end of a rule by an accept
   abbrev pub EndHolds : Accept → Type 0

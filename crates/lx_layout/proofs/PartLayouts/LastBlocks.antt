@@ -19,6 +19,8 @@ use Rattle.lx_layout.specs.SuppliedLayout.{at_end_blocks, blocks_at_end, blocks_
 use Rattle.lx_layout.specs.Supplies.{Reader, Supply, entry, state}
 use Rattle.lx_layout.specs.TestTrees.{TestTree}
 use Rattle.lx_layout.specs.TransitionClasses.{transition_classes}
+use Rattle.lx_ccode.specs.Machine.{is_among}
+use Rattle.lx_layout.proofs.BlockLayouts.Questions.{any_question}
 use Rattle.lx_layout.proofs.PartLayouts.CalmBlocks.{Calm, IsCalm, calm_classes, calm_end, calm_lone, calm_rest}
 use Rattle.lx_layout.proofs.PartLayouts.EachStatement.{units_any}
 use Rattle.lx_layout.proofs.PartLayouts.ReaderBlocks.{reader-tests}
@@ -70,12 +72,13 @@ last-tests : (stored : Option (Reader → ℕ)) (reader : Reader) (eof : Option 
 last-tests stored reader eof units from tree =
     last-none (reader_blocks stored reader eof units from tree)
     (reader-tests TriesNone (λ unit. Unit {0}) (λ reader. Unit {0}) (λ units. Unit {0})
-    (record { eof = eof; tries = false; check = λ number. 0; stored = stored })
+    (record { eof = eof; tries = false; check = λ number. 0; stored = stored; among = is_among [] })
     (reader_statements (λ statement. is_try statement ≡ false) (λ unit. Unit {0}) (λ reader. Unit {0}) (λ units. Unit {0})
-    (record { eof = eof; tries = false; check = λ number. 0; stored = stored })
+    (record { eof = eof; tries = false; check = λ number. 0; stored = stored; among = is_among [] })
     (record {
       goes = λ block. refl;
-      unit = λ greatest block is. refl;
+      unit = λ question block is. any_question (λ statement. is_try statement ≡ false) block (λ greatest. refl) (λ unit. refl) (λ set. refl) question;
+      switches = λ cases last is. refl;
       peeks = refl;
       unchecked = tt;
       needs = λ units is. refl;

@@ -23,6 +23,7 @@ use Rattle.lx_layout.specs.Parts.{EachPart, Part, given_asked, given_supply, par
 use Rattle.lx_layout.specs.SuppliedLayout.{supplied_layout}
 use Rattle.lx_layout.specs.Supplies.{Reader, Supply, entry, state}
 use Rattle.lx_layout.specs.TestTrees.{TestTree}
+use Rattle.lx_layout.proofs.BlockLayouts.Questions.{any_question}
 use Rattle.lx_layout.proofs.PartLayouts.EachStatement.{EndHolds, each_held, statements_each, units_any}
 use Rattle.lx_layout.proofs.PartLayouts.EndingStatements.{EachTag, HoldsOfEnds, ending_each}
 use Rattle.lx_layout.proofs.PartLayouts.OwnHistories.{IsOwnOp}
@@ -106,7 +107,8 @@ module _ (auto : Auto) where
     readers_own : ReaderStatements (NamesItsOwn auto) (λ unit. Unit {0}) (λ reader. Unit {0}) (λ units. Unit {0}) supply
     readers_own = record {
       goes = λ block. nothing refl refl refl;
-      unit = λ greatest block is. nothing refl refl refl;
+      unit = λ question block is. any_question (NamesItsOwn auto) block (λ greatest. nothing refl refl refl) (λ unit. nothing refl refl refl) (λ set. nothing refl refl refl) question;
+      switches = λ cases last is. nothing refl refl refl;
       peeks = nothing refl refl refl;
       unchecked = tt;
       needs = λ units is. nothing refl refl refl;

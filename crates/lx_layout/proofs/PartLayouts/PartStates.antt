@@ -14,6 +14,7 @@ use Rattle.lx_layout.specs.Endings.{ending_code}
 use Rattle.lx_layout.specs.FormedParts.{AllStore, AreFormed, IsFormed, all_asked}
 use Rattle.lx_layout.specs.Parts.{EachPart, Part, given_asked, given_supply, part_codes, parts_blocks, stored_from}
 use Rattle.lx_layout.specs.Supplies.{Reader, Supply, entry, state}
+use Rattle.lx_layout.proofs.BlockLayouts.Questions.{any_question}
 use Rattle.lx_layout.proofs.PartLayouts.CalmBlocks.{IsCalm, calm_ending, calm_op}
 use Rattle.lx_layout.proofs.PartLayouts.EachStatement.{statements_each, units_any}
 use Rattle.lx_layout.proofs.PartLayouts.PartBlocks.{OfBlocks, of_parts, of_statements}
@@ -99,7 +100,8 @@ module _ (greatest first : ℕ) (part : Part) (formed : IsFormed greatest part) 
   readers_none : ReaderStatements StoresNothing (λ unit. Unit {0}) (λ reader. Unit {0}) (λ units. Unit {0}) supply
   readers_none = record {
     goes = λ block. refl;
-    unit = λ greatest block is. refl;
+    unit = λ question block is. any_question (StoresNothing) block (λ greatest. refl) (λ unit. refl) (λ set. refl) question;
+    switches = λ cases last is. refl;
     peeks = refl;
     unchecked = tt;
     needs = λ units is. refl;

@@ -1,28 +1,35 @@
 -- What holds of each block of what reads a unit, if it holds of the code of each sort, wherever that stands.
-use Rattle.std.specs.Prelude.{◌≡◌, ℕ, zero, suc, ◌+◌, Bool, true, false, List, [], ◌∷◌, Option, Some, None, is_some, refl}
-use Rattle.std.proofs.Common.{ap, subst}
+use Rattle.std.specs.Prelude.{◌≡◌, ℕ, zero, suc, ◌+◌, Bool, true, false, List, [], ◌∷◌, map, Option, Some, None, is_some, refl}
+use Rattle.std.proofs.Common.{ap, subst, sym}
 use Rattle.std.specs.List.{AllByRecursion}
 use Rattle.lx_ccode.specs.declared.piece.Stmt.{Stmt}
-use Rattle.lx_ccode.specs.declared.piece.Stmt.TheVariants.{Goto, IfUnit, Peek}
+use Rattle.lx_ccode.specs.declared.piece.Stmt.TheVariants.{Goto, Peek, Switch}
 use Rattle.lx_layout.specs.SuppliedLayout.{at_end_blocks, blocks_at_end, check_blocks, read_blocks, reader_blocks, refill_blocks, with_blocks}
 use Rattle.lx_layout.specs.Supplies.{Reader, Supply, back_code, end_test, need_code, try_code}
-use Rattle.lx_layout.specs.TestTrees.{EachTest, TestTree, fork, inner_blocks, inner_size, leaf, test, tree_code}
+use Rattle.lx_layout.specs.TestTrees.{Asked, EachTest, Question, TestTree, asks, by_cases, by_question, fork, inner_blocks, inner_size, leaf, switch, switch_cases, test, tree_code}
+use Rattle.lx_layout.proofs.BlockLayouts.Questions.{each-cases_by, units-by}
 use Rattle.lx_layout.proofs.Validity.EachElement.{each-append}
 
--- the units of all tests are of some sort
-abbrev pub EachUnit : {A : Type 0} → (G : ℕ → Type 0) → TestTree A → Type 0
+-- all that is asked is of some sort
+abbrev pub EachUnit : {A : Type 0} → (G : Asked → Type 0) → TestTree A → Type 0
 EachUnit G tree = EachTest G (λ class. Unit {0}) tree
 
-pub units-with_blocks : (G : ℕ → Type 0) (block : Option ℕ → ℕ) (tree : TestTree (Option ℕ)) → EachUnit G tree → EachUnit G (with_blocks block tree)
+pub units-with_blocks : (G : Asked → Type 0) (block : Option ℕ → ℕ) (tree : TestTree (Option ℕ)) → EachUnit G tree → EachUnit G (with_blocks block tree)
 units-with_blocks G block (leaf class) h = tt
-units-with_blocks G block (test greatest class high) h = (h.0, tt, units-with_blocks G block high h.2)
-units-with_blocks G block (fork greatest low high) h = (h.0, units-with_blocks G block low h.1, units-with_blocks G block high h.2)
+units-with_blocks G block (switch cases last) h = (
+  subst (λ units. G (by_cases units)) (sym (units-by block cases)) h.0,
+  each-cases_by (λ class. Unit {0}) (λ class. Unit {0}) block (λ class h. tt) cases h.1,
+  tt,
+)
+units-with_blocks G block (test question class high) h = (h.0, tt, units-with_blocks G block high h.2)
+units-with_blocks G block (fork question low high) h = (h.0, units-with_blocks G block low h.1, units-with_blocks G block high h.2)
 
--- Tests are of units of some sort, a reader is of some sort, and checks are for so many units.
-module _ (P : List Stmt → Type 0) (G : ℕ → Type 0) (R : Reader → Type 0) (C : ℕ → Type 0) (supply : Supply) where
+-- Tests ask something of some sort, a reader is of some sort, and checks are for so many units.
+module _ (P : List Stmt → Type 0) (G : Asked → Type 0) (R : Reader → Type 0) (C : ℕ → Type 0) (supply : Supply) where
   pub record HoldsOfReaders : Type 0 where
     pub leads : (block : ℕ) → P (Goto block ∷ [])
-    pub tests : (greatest block : ℕ) (code : List Stmt) → G greatest → P code → P (IfUnit greatest block ∷ code)
+    pub tests : (question : Question) (block : ℕ) (code : List Stmt) → G (by_question question) → P code → P (asks question block ∷ code)
+    pub switches : (cases : List (List ℕ × ℕ)) (last : ℕ) → G (by_cases (map (λ case. case.0) cases)) → P (Switch (switch_cases cases) last ∷ [])
     pub checks : (reader : Reader) (units block : ℕ) → R reader → C (suc units) → P (need_code supply.stored reader (suc units) (Goto block ∷ []))
     pub reads : (reader : Reader) (units : ℕ) (code : List Stmt) → R reader → C units → P code → P (need_code supply.stored reader units (Peek ∷ code))
     -- a reader may check for no units
@@ -34,14 +41,16 @@ module _ (P : List Stmt → Type 0) (G : ℕ → Type 0) (R : Reader → Type 0)
   module _ (holds : HoldsOfReaders) where
     each-tree_code : (next : ℕ) (tree : TestTree ℕ) → EachUnit G tree → P (tree_code next tree)
     each-tree_code next (leaf block) h = holds.leads block
-    each-tree_code next (test greatest block high) h = holds.tests greatest block (tree_code next high) h.0 (each-tree_code next high h.2)
-    each-tree_code next (fork greatest low high) h =
-        holds.tests greatest next (tree_code (suc next + inner_size low) high) h.0 (each-tree_code (suc next + inner_size low) high h.2)
+    each-tree_code next (switch cases last) h = holds.switches cases last h.0
+    each-tree_code next (test question block high) h = holds.tests question block (tree_code next high) h.0 (each-tree_code next high h.2)
+    each-tree_code next (fork question low high) h =
+        holds.tests question next (tree_code (suc next + inner_size low) high) h.0 (each-tree_code (suc next + inner_size low) high h.2)
 
     each-inner_blocks : (next : ℕ) (tree : TestTree ℕ) → EachUnit G tree → AllByRecursion P (inner_blocks next tree)
     each-inner_blocks next (leaf block) h = tt
-    each-inner_blocks next (test greatest block high) h = each-inner_blocks next high h.2
-    each-inner_blocks next (fork greatest low high) h = (
+    each-inner_blocks next (switch cases last) h = tt
+    each-inner_blocks next (test question block high) h = each-inner_blocks next high h.2
+    each-inner_blocks next (fork question low high) h = (
       each-tree_code (suc next) low h.1,
       each-append P (inner_blocks (suc next) low) (inner_blocks (suc next + inner_size low) high) (each-inner_blocks (suc next) low h.1)
           (each-inner_blocks (suc next + inner_size low) high h.2),
@@ -61,8 +70,9 @@ module _ (P : List Stmt → Type 0) (G : ℕ → Type 0) (R : Reader → Type 0)
         by : (eof : Option ℕ) (tree : TestTree ℕ) → EachUnit G tree → (eof ≡ None → C units)
             → AllByRecursion P (reader_blocks supply.stored reader eof units from tree)
         by None (leaf block) h asked = check units block (asked refl)
-        by None (test greatest block high) h asked = read units (test greatest block high) (asked refl) h
-        by None (fork greatest low high) h asked = read units (fork greatest low high) (asked refl) h
+        by None (test question block high) h asked = read units (test question block high) (asked refl) h
+        by None (fork question low high) h asked = read units (fork question low high) (asked refl) h
+        by None (switch cases last) h asked = read units (switch cases last) (asked refl) h
         by (Some eof) tree h asked = read 0 tree holds.unchecked h
 
     pub reader-turn : (reader : Reader) (block here : ℕ) (to : ℕ → ℕ) (end : ℕ) → R reader → AllByRecursion P (at_end_blocks supply reader block here to end)

@@ -10,10 +10,10 @@ use Rattle.lx_layout.specs.FormedParts.{IsFormed}
 use Rattle.lx_layout.specs.Parts.{Part}
 use Rattle.lx_layout.specs.SuppliedLayout.{EachState}
 use Rattle.lx_layout.specs.Supplies.{Reader, entry, state}
-use Rattle.lx_layout.specs.TestTrees.{HasEnd, HasWay, IsTreeOf, TestTree, TestsWithin}
+use Rattle.lx_layout.specs.TestTrees.{AsksAtMost, HasEnd, HasWay, IsTreeOf, TestTree, TestsWithin}
 use Rattle.lx_layout.specs.TransitionClasses.{Split, Stretch, before, edge_split, first_class, same_place, split_of, stretches, class_place, transition_classes}
 use Rattle.lx_layout.specs.UnitApart.{apart_from, reader_split, stretch_behind, unit_last, unit_then, units_before, with_test}
-use Rattle.lx_layout.proofs.BlockLayouts.SplitTrees.{each-tests}
+use Rattle.lx_layout.proofs.BlockLayouts.SplitTrees.{asks-more, each-tests}
 use Rattle.lx_layout.proofs.PartLayouts.ReaderBlocks.{EachUnit}
 
 -- ---- the tests of edges
@@ -115,12 +115,12 @@ end_short (stretch ∷ list) unit short (inl e) = let h = short.0 in omega (arit
 end_short (stretch ∷ list) unit short (inr has) = end_short list unit short.1 has
 
 tree_short : (eof : Option ℕ) (greatest : ℕ) (edges : List Edge) (tree : TestTree (Option ℕ)) → TestsWithin (reader_split eof greatest edges) tree
-    → IfSome eof IsShort → EdgesShort edges → EachUnit IsShort tree
+    → IfSome eof IsShort → EdgesShort edges → EachUnit (AsksAtMost IsShort) tree
 tree_short eof greatest edges tree ends short units =
     let split : Split = reader_split eof greatest edges in
     let all = reader_short eof greatest edges short units in
-    each-tests (HasEnd split.tests) IsShort (HasWay split.tests split.last) (λ class. Unit {0})
-    (λ unit has. end_short split.tests unit all has) (λ class has. tt) tree ends
+    each-tests (AsksAtMost (HasEnd split.tests)) (AsksAtMost IsShort) (HasWay split.tests split.last) (λ class. Unit {0})
+    (asks-more (HasEnd split.tests) IsShort (λ unit has. end_short split.tests unit all has)) (λ class has. tt) tree ends
 
 -- ---- all that reads
 
@@ -134,16 +134,16 @@ module _ (greatest : ℕ) (eof : Option ℕ) (trees : Reader → TestTree (Optio
 
   states_short : (regs mregs count number : ℕ) (states : List State) → AreStates regs mregs count states
       → AllByRecursion (λ (given : State). AreUnits given.edges) states → EachState IsTreeOf eof greatest trees number states
-      → (k : ℕ) → k < length states → EachUnit IsShort (trees (state (number + k)))
+      → (k : ℕ) → k < length states → EachUnit (AsksAtMost IsShort) (trees (state (number + k)))
   states_short regs mregs count number [] are units picked k lt = absurd (omega (arith, lt))
   states_short regs mregs count number (given ∷ states) are units picked zero lt =
       let e : number ≡ number + 0 = omega arith in
-      subst (λ n. EachUnit IsShort (trees (state n))) e
+      subst (λ n. EachUnit (AsksAtMost IsShort) (trees (state n))) e
       (tree_short eof greatest given.edges (trees (state number)) picked.0.ends eof_short
       (edges_short greatest 0 given.edges short are.0.apart (each_of_all (λ (edge : Edge). edge.hi ≤ greatest) given.edges units.0)))
   states_short regs mregs count number (given ∷ states) are units picked (suc k) lt =
       let e : suc number + k ≡ number + suc k = omega arith in
-      subst (λ n. EachUnit IsShort (trees (state n))) e
+      subst (λ n. EachUnit (AsksAtMost IsShort) (trees (state n))) e
       (states_short regs mregs count (suc number) states are.1 units.1 picked.1 k (omega (arith, lt)))
 
   first_short : (regs mregs count : ℕ) (states : List State) → AreStates regs mregs count states
@@ -153,16 +153,16 @@ module _ (greatest : ℕ) (eof : Option ℕ) (trees : Reader → TestTree (Optio
       edges_short greatest 0 given.edges short are.0.apart (each_of_all (λ (edge : Edge). edge.hi ≤ greatest) given.edges units.0)
 
 module _ (greatest : ℕ) (part : Part) (short : IsShort greatest) (eof_short : IfSome part.given.demand.eof IsShort) (formed : IsFormed greatest part) where
-  pub tests_short : (number : ℕ) → number < length part.given.auto.states → EachUnit IsShort (part.trees (state number))
+  pub tests_short : (number : ℕ) → number < length part.given.auto.states → EachUnit (AsksAtMost IsShort) (part.trees (state number))
   tests_short number lt =
       let e : 0 + number ≡ number = omega arith in
-      subst (λ n. EachUnit IsShort (part.trees (state n))) e
+      subst (λ n. EachUnit (AsksAtMost IsShort) (part.trees (state n))) e
       (states_short greatest part.given.demand.eof part.trees short eof_short part.given.auto.regs part.given.auto.mregs (length part.given.auto.states) 0
       part.given.auto.states formed.auto.states
       (each_of_all (λ (given : State). All (λ (edge : Edge). edge.hi ≤ greatest) given.edges) part.given.auto.states formed.units)
       formed.chosen.trees.states number lt)
 
-  pub entry_short : EachUnit IsShort (part.trees entry)
+  pub entry_short : EachUnit (AsksAtMost IsShort) (part.trees entry)
   entry_short =
       tree_short part.given.demand.eof greatest (state_of part.given.auto.states 0).edges (part.trees entry) formed.chosen.trees.entry.ends eof_short
       (first_short greatest part.given.demand.eof part.trees short eof_short part.given.auto.regs part.given.auto.mregs (length part.given.auto.states)

@@ -29,6 +29,8 @@ use Rattle.lx_layout.proofs.PartLayouts.OwnHistories.{IsOwnOp}
 use Rattle.lx_layout.proofs.PartLayouts.PlainBlocks.{OfAccept, OfAccepts, few_saved}
 use Rattle.lx_layout.proofs.PartLayouts.ShortTests.{entry_short, tests_short}
 use Rattle.lx_layout.proofs.PartLayouts.StatementSorts.{PlainStatements, ReaderStatements}
+use Rattle.lx_layout.specs.TestTrees as trees
+use Rattle.lx_layout.specs.TestTrees.{AsksAtMost, Question, among, asks, at_most, by_question}
 
 -- the number of a history, and one more, can be written
 abbrev pub HasRoom : ℕ → Type 0
@@ -59,6 +61,13 @@ IsSpellable names conds (Switch cases last) = ⊥
 IsSpellable names conds (Code rule line action) = IsShort rule × IsLine line × IsShort (length action)
 IsSpellable names conds (Jump cond rule) = (IsIdentifier cond × (list_any (equal_words cond) conds ≡ true)) × IsShort rule
 IsSpellable names conds _ = Unit {0}
+
+-- a test that asks for a greatest unit that can be written
+question_spelled : (names : Spellings) (conds : List (List ℕ)) (question : Question) (block : ℕ) → AsksAtMost IsShort (by_question question)
+    → IsSpellable names conds (asks question block)
+question_spelled names conds (at_most greatest) block is = is
+question_spelled names conds (trees.is unit) block is = absurd is
+question_spelled names conds (among set) block is = absurd is
 
 -- ---- numbers by which what reads is stored
 
@@ -174,10 +183,11 @@ module _ (names : Spellings) (conds : List (List ℕ)) where
       chooses = λ saved block is. is;
     }
 
-    readers_fine : ReaderStatements (IsSpellable names conds) IsShort CanBeStored IsShort supply
+    readers_fine : ReaderStatements (IsSpellable names conds) (AsksAtMost IsShort) CanBeStored IsShort supply
     readers_fine = record {
       goes = λ block. tt;
-      unit = λ greatest block is. is;
+      unit = λ question block is. question_spelled names conds question block is;
+      switches = λ cases last is. absurd is;
       peeks = tt;
       unchecked = omega arith;
       needs = λ units is. is;
@@ -191,7 +201,7 @@ module _ (names : Spellings) (conds : List (List ℕ)) where
     part_fine begin =
         let few = formed.auto.few in
         let saved = few_saved part.halting part.given.auto.states in
-        statements_each (IsSpellable names conds) IsShort CanBeStored IsShort IsShort supply part.halting part.given.endings part.given.end_rule part.trees
+        statements_each (IsSpellable names conds) (AsksAtMost IsShort) CanBeStored IsShort IsShort supply part.halting part.given.endings part.given.end_rule part.trees
         part.given.auto
         (record {
           plain = plain_fine;

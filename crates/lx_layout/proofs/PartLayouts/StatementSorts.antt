@@ -1,5 +1,5 @@
 -- What holds of each statement of a layout, if it holds of the statements of each sort.
-use Rattle.std.specs.Prelude.{◌≡◌, ℕ, zero, suc, Bool, true, false, List, [], ◌∷◌, Option, Some, None, is_some, refl}
+use Rattle.std.specs.Prelude.{◌≡◌, ℕ, zero, suc, Bool, true, false, List, [], ◌∷◌, map, Option, Some, None, is_some, refl}
 use Rattle.std.specs.List.{AllByRecursion}
 use Rattle.lx_auto.specs.declared.automaton.Accept.{Accept}
 use Rattle.lx_auto.specs.declared.automaton.Auto.{Auto}
@@ -7,13 +7,14 @@ use Rattle.lx_auto.specs.declared.automaton.Edge.{Edge}
 use Rattle.lx_auto.specs.declared.automaton.State.{State}
 use Rattle.lx_auto.specs.declared.ops.Op.{Op}
 use Rattle.lx_ccode.specs.declared.piece.Stmt.{Stmt}
-use Rattle.lx_ccode.specs.declared.piece.Stmt.TheVariants.{Accept as SaveAccept, Backup, Goto, IfAccept, IfEnd, IfUnit, Leave, Need, Peek, Restore, Skip, State as Store, Try}
+use Rattle.lx_ccode.specs.declared.piece.Stmt.TheVariants.{Accept as SaveAccept, Backup, Goto, IfAccept, IfEnd, Leave, Need, Peek, Restore, Skip, State as Store, Switch, Try}
 use Rattle.lx_sequence.specs.ParallelCopies.{sequentialized}
 use Rattle.lx_layout.specs.Codes.{Choice, list_code, op_code, ops_code, save_code}
 use Rattle.lx_layout.specs.Endings.{Ending, ending_code}
 use Rattle.lx_layout.specs.Fallback.{fallback_code}
 use Rattle.lx_layout.specs.Halting.{Halting, saves_on}
 use Rattle.lx_layout.specs.Supplies.{Reader, Supply, need_code, store_code}
+use Rattle.lx_layout.specs.TestTrees.{Asked, Question, asks, by_cases, by_question, switch_cases}
 use Rattle.lx_layout.proofs.PartLayouts.PlainBlocks.{HoldsOfPlain}
 use Rattle.lx_layout.proofs.PartLayouts.ReaderBlocks.{HoldsOfReaders}
 
@@ -74,11 +75,12 @@ module _ (Q : Stmt → Type 0) (S : ℕ → Type 0) (halting : Halting) (endings
       end_rule = λ rule are. are;
     }
 
--- Tests are of units of some sort, readers are of some sort, and checks are for so many units.
-module _ (Q : Stmt → Type 0) (G : ℕ → Type 0) (R : Reader → Type 0) (C : ℕ → Type 0) (supply : Supply) where
+-- Tests ask something of some sort, readers are of some sort, and checks are for so many units.
+module _ (Q : Stmt → Type 0) (G : Asked → Type 0) (R : Reader → Type 0) (C : ℕ → Type 0) (supply : Supply) where
   pub record ReaderStatements : Type 0 where
     pub goes : (block : ℕ) → Q (Goto block)
-    pub unit : (greatest block : ℕ) → G greatest → Q (IfUnit greatest block)
+    pub unit : (question : Question) (block : ℕ) → G (by_question question) → Q (asks question block)
+    pub switches : (cases : List (List ℕ × ℕ)) (last : ℕ) → G (by_cases (map (λ case. case.0) cases)) → Q (Switch (switch_cases cases) last)
     pub peeks : Q Peek
     pub unchecked : C 0
     pub needs : (units : ℕ) → C (suc units) → Q (Need (suc units))
@@ -101,7 +103,8 @@ module _ (Q : Stmt → Type 0) (G : ℕ → Type 0) (R : Reader → Type 0) (C :
     pub reader_statements : HoldsOfReaders (AllByRecursion Q) G R C supply
     reader_statements = record {
       leads = λ block. (holds.goes block, tt);
-      tests = λ greatest block code is h. (holds.unit greatest block is, h);
+      tests = λ question block code is h. (holds.unit question block is, h);
+      switches = λ cases last is. (holds.switches cases last is, tt);
       checks = λ reader units block is some. need_each reader (suc units) (Goto block ∷ []) is some (holds.goes block, tt);
       reads = λ reader units code is some h. need_each reader units (Peek ∷ code) is some (holds.peeks, h);
       unchecked = holds.unchecked;

@@ -9,7 +9,7 @@ use Rattle.lx_ccode.specs.declared.piece.StateCase.{StateCase}
 use Rattle.lx_ccode.specs.declared.piece.Stmt.{Stmt}
 use Rattle.lx_layout.specs.SuppliedLayout.{blocks_at_end, check_blocks, read_blocks, reader_blocks}
 use Rattle.lx_layout.specs.Supplies.{Reader}
-use Rattle.lx_layout.specs.TestTrees.{TestTree, fork, inner_blocks, leaf, test, tree_code}
+use Rattle.lx_layout.specs.TestTrees.{TestTree, fork, inner_blocks, leaf, switch, test, tree_code}
 use Rattle.lx_layout.proofs.PartLayouts.CalmBlocks.{Calm, calm_inner, calm_tree}
 
 -- ---- the numbers in a code
@@ -95,8 +95,9 @@ module _ (number : Reader → ℕ) (reader : Reader) where
       by : (eof : Option ℕ) (tree : TestTree ℕ)
           → stored_of (reader_blocks (Some number) reader eof units from tree) ≡ listed (checks_by eof units) (number reader)
       by None (leaf block) = check units block
-      by None (test greatest block high) = read units (test greatest block high)
-      by None (fork greatest low high) = read units (fork greatest low high)
+      by None (test question block high) = read units (test question block high)
+      by None (fork question low high) = read units (fork question low high)
+      by None (switch cases last) = read units (switch cases last)
       by (Some eof) tree = read 0 tree
 
   pub stored-turn : (eof : Option ℕ) (tries : Bool) (block here : ℕ) (to : ℕ → ℕ) (end : ℕ)

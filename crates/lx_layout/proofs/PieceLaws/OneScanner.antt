@@ -30,6 +30,8 @@ use Rattle.lx_layout.specs.Supplied.{Serves, ServesEntry}
 use Rattle.lx_layout.specs.SuppliedLayout.{EachReader, entry_of, fall_block, number_in, place_of, rule_block, supplied_layout}
 use Rattle.lx_layout.specs.Supplies.{Reader, Supply}
 use Rattle.lx_layout.specs.TestTrees.{IsTreeOf, PicksAs, TestTree, TestsWithin}
+use Rattle.lx_ccode.specs.Machine.{is_among}
+use Rattle.lx_layout.proofs.BlockLayouts.Questions.{FitsTable}
 use Rattle.lx_layout.proofs.PieceLaws.EnoughChecks.{checks_enough}
 use Rattle.lx_layout.proofs.PieceLaws.FitParts.{end_unit}
 use Rattle.lx_layout.proofs.PieceLaws.PartEntries.{entry_first}
@@ -49,11 +51,12 @@ unit_within Utf8 unit lt = omega (arith, lt)
 unit_within Utf16 unit lt = omega (arith, lt)
 unit_within Utf32 unit lt = omega (arith, lt)
 
--- What is known of a piece: its unit, and that at the end; that each state is stored once, and none where none is to be; and that it asks for
+-- What is known of a piece: its unit, and that at the end, and that it has no sets; that each state is stored once, and none where none is to be; and that it asks for
 -- nothing where no refill is asked for.
 pub record FitsForm (form : Form) (piece : Piece) : Type 0 where
   pub eof : piece.eof ≡ form.eof
   pub unit : piece.unit ≡ unit_size form.enc
+  pub table : piece.table ≡ []
   pub once : AreOnce (states_from 0 piece.blocks)
   pub none : form.stores ≡ false → list_any is_state (all_statements piece.blocks) ≡ false
   pub asks : form.fill ≡ false → AsksNothing piece
@@ -74,18 +77,21 @@ module _ (form : Form) (conds : List (List ℕ)) (scanner : Source) (fit : IsFit
   tests : EachReader TestsWithin form.eof (greatest_unit form.enc) trees scanner.auto
   tests = each_reader IsTreeOf TestsWithin (λ split tree is. is.ends) form.eof (greatest_unit form.enc) trees scanner.auto are
 
-  picks : EachReader PicksAs form.eof (greatest_unit form.enc) trees scanner.auto
-  picks = each_reader IsTreeOf PicksAs (λ split tree is. is.picks) form.eof (greatest_unit form.enc) trees scanner.auto are
+  picks : EachReader (PicksAs supply.among) form.eof (greatest_unit form.enc) trees scanner.auto
+  picks = each_reader IsTreeOf (PicksAs supply.among) (λ split tree is. is.picks supply.among) form.eof (greatest_unit form.enc) trees scanner.auto are
 
   stored : (supply.stored ≡ None) ⊎ AreOnce (states_from 0 piece.blocks)
   stored = inr ready.once
+
+  among : FitsTable supply.among piece
+  among set unit = ap (λ table. is_among table set unit) (sym ready.table)
 
   carried_as : AllByRecursion (λ code. AllByRecursion (NamesItsOwn scanner.auto) code)
       (supplied_layout supply halting scanner.endings scanner.end_rule trees scanner.auto begin)
       → (carries : Carries piece entry scanner.endings scanner.auto) × (carries.place ≡ place_of supply halting scanner.end_rule trees scanner.auto begin)
   carried_as own =
       layout_carries_at piece scanner.endings scanner.end_rule (greatest_unit form.enc) scanner.auto supply halting trees begin fit.formed fit.units fit.agreed
-      (end_unit form conds scanner fit) are marked stands stored ready.eof
+      (end_unit form conds scanner fit) are marked stands stored ready.eof among
       (λ unit lt. unit_within form.enc unit (subst (λ n. unit < 2 ^ (8 * n)) ready.unit lt)) own
 
   carried : AllByRecursion (λ code. AllByRecursion (NamesItsOwn scanner.auto) code)
@@ -153,7 +159,7 @@ module _ (form : Form) (conds : List (List ℕ)) (scanner : Source) (fit : IsFit
       by true e = ready.once
 
   supplied : IsSupplied (mode_of form.eof form.fill) supply scanner.auto piece
-  supplied = record { eof = ready.eof; of_mode = of_mode; stored = stored_by }
+  supplied = record { eof = ready.eof; of_mode = of_mode; stored = stored_by; among = among }
 
   -- the rule at the end of the input is that of the patterns
   is_right : (policy : Policy) (patterns : List Pattern) (cond : List ℕ) → IsAutoUnder policy form.enc patterns scanner.auto

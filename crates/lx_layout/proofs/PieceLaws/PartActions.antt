@@ -15,6 +15,7 @@ use Rattle.lx_layout.specs.Endings.{Ending, action_code, cond_code, ending_code,
 use Rattle.lx_layout.specs.Parts.{Part, given_supply, part_codes}
 use Rattle.lx_layout.specs.Supplies.{Supply, entry, state}
 use Rattle.lx_layout.specs.FormedParts.{IsFormed}
+use Rattle.lx_layout.proofs.BlockLayouts.Questions.{any_question}
 use Rattle.lx_layout.proofs.PartLayouts.EachStatement.{statements_each, units_any}
 use Rattle.lx_layout.proofs.PartLayouts.EndingStatements.{EachTag, HoldsOfEnds, ending_each}
 use Rattle.lx_layout.proofs.PartLayouts.PlainBlocks.{OfAccept, OfAccepts}
@@ -93,7 +94,8 @@ module _ (greatest begin first : ℕ) (part : Part) (formed : IsFormed greatest 
   own_readers : ReaderStatements (IsOwnAction part.given.endings) (λ unit. Unit {0}) (λ reader. Unit {0}) (λ units. Unit {0}) supply
   own_readers = record {
     goes = λ block. tt;
-    unit = λ greatest block is. tt;
+    unit = λ question block is. any_question (IsOwnAction part.given.endings) block (λ greatest. tt) (λ unit. tt) (λ set. tt) question;
+    switches = λ cases last is. tt;
     peeks = tt;
     unchecked = tt;
     needs = λ units is. tt;

@@ -205,7 +205,7 @@ module _ (form : Form) (given : List Source) (parts : List Part) (piece : Piece)
       (parts_act form piece.blocks given 0 form.first_state given parts are_parts are (λ scanner has. has))))
 
   ready : FitsForm form piece
-  ready = record { eof = fields.eof; unit = fields.unit; once = is_valid.states_differ; none = nothing; asks = asks_nothing }
+  ready = record { eof = fields.eof; unit = fields.unit; table = fields.table; once = is_valid.states_differ; none = nothing; asks = asks_nothing }
 
   begin : EachPart (BeginsAt piece.conds) 0 form.first_state parts
   begin =

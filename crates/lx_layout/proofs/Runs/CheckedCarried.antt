@@ -10,7 +10,7 @@ use Rattle.lx_base.specs.Names.{Spellings}
 use Rattle.lx_ccode.specs.declared.piece.Piece.{Piece}
 use Rattle.lx_ccode.specs.declared.piece.Stmt.{Stmt}
 use Rattle.lx_ccode.specs.declared.piece.Stmt.TheVariants.{Code, Goto, Leave, Peek, Skip}
-use Rattle.lx_ccode.specs.Machine.{code_at}
+use Rattle.lx_ccode.specs.Machine.{code_at, is_among}
 use Rattle.lx_ccode.specs.Scanners.{IsMadeBy, StandsIn}
 use Rattle.lx_ccode.specs.Statements.{code_of}
 use Rattle.lx_ccode.specs.Traces.{is_peek}
@@ -22,7 +22,7 @@ use Rattle.lx_layout.specs.Examples.{untagged}
 use Rattle.lx_layout.specs.Halting.{Halting, is_saved}
 use Rattle.lx_layout.specs.Supplied.{HasCode, IsTarget, Serves, ServesState, by_tests, ends, reads}
 use Rattle.lx_layout.specs.Supplies.{Supply}
-use Rattle.lx_layout.specs.TestTrees.{TestTree, leaf, picked, test}
+use Rattle.lx_layout.specs.TestTrees.{TestTree, at_most, leaf, picked, test}
 use Rattle.lx_layout.proofs.Carrying.SuppliedCarried.{supplied_carries}
 use Rattle.lx_layout.proofs.Runs.CarriedSteps.{nothing_named}
 
@@ -53,7 +53,7 @@ checked zero = 2
 checked (suc number) = 0
 
 abbrev supply : Supply
-supply = record { eof = None; tries = false; check = checked; stored = Some (λ reader. 0) }
+supply = record { eof = None; tries = false; check = checked; stored = Some (λ reader. 0); among = is_among [] }
 
 abbrev to_second : Edge
 to_second = record { lo = 97; hi = 97; ops = []; to = 1 }
@@ -122,12 +122,12 @@ module _ (names : Spellings) where
   -- ---- what the blocks serve
 
   abbrev first_tree : TestTree ℕ
-  first_tree = test 96 4 (test 97 1 (leaf 4))
+  first_tree = test (at_most 96) 4 (test (at_most 97) 1 (leaf 4))
 
   abbrev second_tree : TestTree ℕ
-  second_tree = test 97 4 (test 98 3 (leaf 4))
+  second_tree = test (at_most 97) 4 (test (at_most 98) 3 (leaf 4))
 
-  first_leads : (unit : ℕ) → Target 0 (edge_on (state_of both.states 0).edges unit) (picked first_tree unit)
+  first_leads : (unit : ℕ) → Target 0 (edge_on (state_of both.states 0).edges unit) (picked supply.among first_tree unit)
   first_leads unit = by (nat_le unit 96) (nat_le unit 97) refl refl where
     on_a : (high : Bool) → Target 0 (if high then Some to_second else None) (if high then 1 else 4)
     on_a true = refl
@@ -138,7 +138,7 @@ module _ (names : Spellings) where
     by true high is_low is_high = subst (λ o. Target 0 o 4) (sym (low_first unit is_low)) (refl, refl)
     by false high low is_high = subst (λ o. Target 0 o (if high then 1 else 4)) (sym (high_first unit high low is_high)) (on_a high)
 
-  second_leads : (unit : ℕ) → Target 1 (edge_on (state_of both.states 1).edges unit) (picked second_tree unit)
+  second_leads : (unit : ℕ) → Target 1 (edge_on (state_of both.states 1).edges unit) (picked supply.among second_tree unit)
   second_leads unit = by (nat_le unit 97) (nat_le unit 98) refl refl where
     on_b : (high : Bool) → Target 1 (if high then Some to_last else None) (if high then 3 else 4)
     on_b true = refl
@@ -231,5 +231,5 @@ module _ (names : Spellings) where
 
   pub checked_carried : Carries (checked_piece names) 0 untagged both
   checked_carried =
-      supplied_carries supply halting untagged 255 both p place saved rules 4 None 0 serves refl formed (λ unit lt. omega (arith, lt)) apart
+      supplied_carries supply halting untagged 255 both p place saved rules 4 None 0 serves refl formed (λ set unit. refl) (λ unit lt. omega (arith, lt)) apart
       (λ block of stands. peeks block stands) own

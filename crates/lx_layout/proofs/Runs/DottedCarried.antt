@@ -24,7 +24,7 @@ use Rattle.lx_layout.specs.Examples.{bytes_piece, dotted_blocks, tagged}
 use Rattle.lx_layout.specs.Halting.{Halting}
 use Rattle.lx_layout.specs.Supplied.{HasCode, IsTarget, Serves, ServesState, by_tests, reads}
 use Rattle.lx_layout.specs.Supplies.{plain_supply}
-use Rattle.lx_layout.specs.TestTrees.{TestTree, fork, leaf, picked, test}
+use Rattle.lx_layout.specs.TestTrees.{TestTree, at_most, fork, leaf, picked, test}
 use Rattle.lx_layout.proofs.Carrying.SuppliedCarried.{supplied_carries}
 use Rattle.lx_layout.proofs.Runs.CarriedSteps.{first_named, nothing_named}
 
@@ -126,12 +126,12 @@ module _ (names : Spellings) where
   -- ---- what the blocks serve
 
   abbrev first_tree : TestTree ℕ
-  first_tree = test 96 6 (fork 119 (test 99 2 (leaf 6)) (test 122 2 (leaf 6)))
+  first_tree = test (at_most 96) 6 (fork (at_most 119) (test (at_most 99) 2 (leaf 6)) (test (at_most 122) 2 (leaf 6)))
 
   abbrev second_tree : TestTree ℕ
-  second_tree = test 45 5 (test 46 4 (leaf 5))
+  second_tree = test (at_most 45) 5 (test (at_most 46) 4 (leaf 5))
 
-  first_leads : (unit : ℕ) → Target 0 (edge_on (state_of dotted.states 0).edges unit) (picked first_tree unit)
+  first_leads : (unit : ℕ) → Target 0 (edge_on (state_of dotted.states 0).edges unit) (picked plain_supply.among first_tree unit)
   first_leads unit = by (nat_le unit 96) (nat_le unit 119) (nat_le unit 99) (nat_le unit 122) refl refl refl refl where
     -- the edge by its bounds, and the block
     goes_by : (a b c d : Bool) (block : ℕ) → nat_le 97 unit ≡ a → nat_le unit 99 ≡ b → nat_le 120 unit ≡ c → nat_le unit 122 ≡ d
@@ -160,7 +160,7 @@ module _ (names : Spellings) where
         goes_by true false true false 6 (le-leb 97 unit (omega (arith, gt))) (lt-leb unit 99 (omega (arith, gt))) (le-leb 120 unit (omega (arith, gt))) is_top
         (refl, refl)
 
-  second_leads : (unit : ℕ) → Target 1 (edge_on (state_of dotted.states 1).edges unit) (picked second_tree unit)
+  second_leads : (unit : ℕ) → Target 1 (edge_on (state_of dotted.states 1).edges unit) (picked plain_supply.among second_tree unit)
   second_leads unit = by (nat_le unit 45) (nat_le unit 46) refl refl where
     on_dot : (high : Bool) → Target 1 (if high then Some dot_edge else None) (if high then 4 else 5)
     on_dot true = refl
@@ -243,5 +243,5 @@ module _ (names : Spellings) where
 
   pub dots_carried : Carries (bytes_piece names dotted_blocks) 0 tagged dotted
   dots_carried =
-      supplied_carries plain_supply halting tagged 255 dotted p place saved rules 6 None 0 serves refl formed (λ unit lt. omega (arith, lt)) apart
+      supplied_carries plain_supply halting tagged 255 dotted p place saved rules 6 None 0 serves refl formed (λ set unit. refl) (λ unit lt. omega (arith, lt)) apart
       (λ block of stands. peeks block stands) own

@@ -8,7 +8,7 @@ use Rattle.lx_base.specs.Names.{Spellings}
 use Rattle.lx_ccode.specs.declared.piece.Piece.{Piece}
 use Rattle.lx_ccode.specs.declared.piece.Stmt.{Stmt}
 use Rattle.lx_ccode.specs.declared.piece.Stmt.TheVariants.{Accept, Backup, Code, Goto, IfAccept, IfEnd, Leave, Peek, Restore, Skip, State, Try}
-use Rattle.lx_ccode.specs.Machine.{code_at}
+use Rattle.lx_ccode.specs.Machine.{code_at, is_among}
 use Rattle.lx_ccode.specs.Scanners.{IsMadeBy, StandsIn}
 use Rattle.lx_ccode.specs.Statements.{code_of}
 use Rattle.lx_ccode.specs.Traces.{is_peek}
@@ -19,7 +19,7 @@ use Rattle.lx_layout.specs.Endings.{ending_code}
 use Rattle.lx_layout.specs.Examples.{untagged}
 use Rattle.lx_layout.specs.Supplied.{HasCode, IsTarget, Serves, ServesEntry, ServesState, at_end, reads}
 use Rattle.lx_layout.specs.Supplies.{Reader, Supply, entry, state}
-use Rattle.lx_layout.specs.TestTrees.{TestTree, leaf, picked, test}
+use Rattle.lx_layout.specs.TestTrees.{TestTree, at_most, leaf, picked, test}
 use Rattle.lx_layout.proofs.Carrying.SuppliedCarried.{supplied_carries}
 use Rattle.lx_layout.proofs.Runs.CarriedSteps.{nothing_named}
 use Rattle.lx_layout.proofs.Runs.PairsCarried.{accepted_first, bare_there, edges_there, falls_there, halting, saved, low_last, low_none, on_first, on_last, paired_formed, to_first, to_second}
@@ -37,7 +37,7 @@ stored entry = 0
 stored (state number) = suc number
 
 abbrev supply : Supply
-supply = record { eof = Some 0; tries = true; check = λ number. 0; stored = Some stored }
+supply = record { eof = Some 0; tries = true; check = λ number. 0; stored = Some stored; among = is_among [] }
 
 module _ (names : Spellings) where
   abbrev p : Piece
@@ -52,10 +52,10 @@ module _ (names : Spellings) where
   -- ---- the tests of the states; those of state 0 stand at the entry too, with another test of the end
 
   abbrev first_tree : (asks : ℕ) → TestTree ℕ
-  first_tree asks = test 0 asks (test 96 14 (test 97 8 (leaf 14)))
+  first_tree asks = test (at_most 0) asks (test (at_most 96) 14 (test (at_most 97) 8 (leaf 14)))
 
   abbrev second_tree : TestTree ℕ
-  second_tree = test 0 10 (test 97 16 (test 98 13 (leaf 16)))
+  second_tree = test (at_most 0) 10 (test (at_most 97) 16 (test (at_most 98) 13 (leaf 16)))
 
   -- a unit that is not 0 passes the first test
   behind_zero : (To : ℕ → Type 0) (unit asks to : ℕ) → (unit ≡ 0 → ⊥) → To to → To (if nat_le unit 0 then asks else to)
@@ -64,9 +64,9 @@ module _ (names : Spellings) where
     by true low = absurd (some (let le = leb-true unit 0 low in omega (arith, le)))
     by false above = target
 
-  first_leads : (asks unit : ℕ) → (unit ≡ 0 → ⊥) → Target 0 (edge_on (state_of paired.states 0).edges unit) (picked (first_tree asks) unit)
+  first_leads : (asks unit : ℕ) → (unit ≡ 0 → ⊥) → Target 0 (edge_on (state_of paired.states 0).edges unit) (picked supply.among (first_tree asks) unit)
   first_leads asks unit some =
-      behind_zero (λ block. Target 0 (edge_on (state_of paired.states 0).edges unit) block) unit asks (picked (test 96 14 (test 97 8 (leaf 14))) unit) some
+      behind_zero (λ block. Target 0 (edge_on (state_of paired.states 0).edges unit) block) unit asks (picked supply.among (test (at_most 96) 14 (test (at_most 97) 8 (leaf 14))) unit) some
       (by (nat_le unit 96) (nat_le unit 97) refl refl)
     where
       on_a : (high : Bool) → Target 0 (if high then Some to_second else None) (if high then 8 else 14)
@@ -78,9 +78,9 @@ module _ (names : Spellings) where
       by true high is_low is_high = subst (λ o. Target 0 o 14) (sym (low_none unit is_low)) (refl, refl)
       by false high low is_high = subst (λ o. Target 0 o (if high then 8 else 14)) (sym (on_first unit high low is_high)) (on_a high)
 
-  second_leads : (unit : ℕ) → (unit ≡ 0 → ⊥) → Target 1 (edge_on (state_of paired.states 1).edges unit) (picked second_tree unit)
+  second_leads : (unit : ℕ) → (unit ≡ 0 → ⊥) → Target 1 (edge_on (state_of paired.states 1).edges unit) (picked supply.among second_tree unit)
   second_leads unit some =
-      behind_zero (λ block. Target 1 (edge_on (state_of paired.states 1).edges unit) block) unit 10 (picked (test 97 16 (test 98 13 (leaf 16))) unit) some
+      behind_zero (λ block. Target 1 (edge_on (state_of paired.states 1).edges unit) block) unit 10 (picked supply.among (test (at_most 97) 16 (test (at_most 98) 13 (leaf 16))) unit) some
       (by (nat_le unit 97) (nat_le unit 98) refl refl)
     where
       on_b : (high : Bool) → Target 1 (if high then Some to_first else None) (if high then 13 else 16)
@@ -166,5 +166,5 @@ module _ (names : Spellings) where
 
   pub ended_carried : Carries (ended_piece names) 0 untagged paired
   ended_carried =
-      supplied_carries supply halting untagged 255 paired p place saved rules 14 (Some 2) 0 serves serves_entry paired_formed (λ unit lt. omega (arith, lt)) apart
+      supplied_carries supply halting untagged 255 paired p place saved rules 14 (Some 2) 0 serves serves_entry paired_formed (λ set unit. refl) (λ unit lt. omega (arith, lt)) apart
       (λ block of stands. peeks block stands) own

@@ -1,21 +1,20 @@
 -- The machine, written by what a run of an automaton knows, and what operations and tests of a unit do to it.
-use Rattle.std.specs.Prelude.{◌≡◌, ◌≢◌, ℕ, zero, suc, ◌+◌, ◌<◌, List, [], ◌∷◌, length, Option, Some, None, Bool, true, false, nat_le, nat_eq, refl, slice_get, if◌then◌else◌}
+use Rattle.std.specs.Prelude.{◌≡◌, ◌≢◌, ℕ, zero, suc, ◌+◌, ◌<◌, List, [], ◌∷◌, length, Option, Some, None, Bool, true, false, nat_eq, refl, slice_get, if◌then◌else◌}
 use Rattle.std.proofs.Common.{sym, ap, ◌∙◌, subst, arith, eqb-true, eq-eqb, true≢false}
 use Rattle.std.proofs.lemmas.Bool.{ne_eqb}
 use Rattle.lx_auto.specs.Bank.{Bank}
 use Rattle.lx_auto.specs.declared.ops.Op.{Op}
 use Rattle.lx_auto.specs.declared.ops.Op.TheVariants.{Here, Null, Copy, MHere, MNull, MCopy}
 use Rattle.lx_ccode.specs.declared.piece.Stmt.{Stmt}
-use Rattle.lx_ccode.specs.declared.piece.Stmt.TheVariants.{IfUnit}
 use Rattle.lx_ccode.specs.declared.piece.Piece.{Piece}
 use Rattle.lx_ccode.specs.Machine.{Machine, Value, Answer, goes_on, step, jump, updated}
-use Rattle.lx_ccode.proofs.TraceSteps.{test_fails, test_holds}
 use Rattle.lx_ccode.specs.Statements.{code_of}
 use Rattle.lx_sequence.specs.Turns.{after_op, after_ops}
 use Rattle.lx_layout.specs.Codes.{save_code, op_code, ops_code}
 use Rattle.lx_layout.specs.Layout.{StandsFrom}
-use Rattle.lx_layout.specs.TestTrees.{TestTree, fork, inner_blocks, inner_size, leaf, picked, test, tree_code}
+use Rattle.lx_layout.specs.TestTrees.{Question, TestTree, asks, fork, holds, inner_blocks, inner_size, leaf, picked, switch, test, tree_code}
 use Rattle.lx_layout.proofs.BlockLayouts.CodesInBlocks.{StandsFrom-back, StandsFrom-front, code_length-append}
+use Rattle.lx_layout.proofs.BlockLayouts.Questions.{FitsTable, cases_step, question_fails, question_holds}
 use Rattle.lx_layout.proofs.Runs.PartialRuns.{LeadsIn, stays_in, step_in, then_in, widen}
 use Rattle.lx_layout.proofs.BlockLayouts.TreeCodes.{length-inner_blocks, tree_length}
 
@@ -114,69 +113,66 @@ module _ (p : Piece) (x : List ℕ) (start : ℕ) where
         then_in p x start (suc (length ops)) (step_in p x start (op_step op pos.0 (ops_code ops b) k) (omega arith))
         (ops_run ops pos.1 b (after_op cur op k)) (omega arith)
 
-  -- a test of the unit
-  module _ (greatest block unit : ℕ) (rest : List Stmt) (m : Machine) (q : List Answer) (read : m.unit ≡ Some unit) where
-    holds_in : (to : List Stmt) → nat_le unit greatest ≡ true → slice_get (code_of p.blocks) block ≡ Some to
-        → LeadsIn p x start 1 (IfUnit greatest block ∷ rest) m q to m q
-    holds_in to h et =
-        let s : step p x (IfUnit greatest block) rest m q ≡ goes_on to m q =
-        test_holds p x rest m q unit read (λ other. nat_le other greatest) block to h et in
-        step_in p x start s (omega arith)
+  module _ (sets : (set unit : ℕ) → Bool) (fits : FitsTable sets p) where
+    -- a test of the unit
+    module _ (question : Question) (block unit : ℕ) (rest : List Stmt) (m : Machine) (q : List Answer) (read : m.unit ≡ Some unit) where
+      holds_in : (to : List Stmt) → holds sets question unit ≡ true → slice_get (code_of p.blocks) block ≡ Some to
+          → LeadsIn p x start 1 (asks question block ∷ rest) m q to m q
+      holds_in to h et = step_in p x start (question_holds p x rest m q sets fits unit read question block to h et) (omega arith)
 
-    fails_in : nat_le unit greatest ≡ false → LeadsIn p x start 1 (IfUnit greatest block ∷ rest) m q rest m q
-    fails_in h =
-        let s : step p x (IfUnit greatest block) rest m q ≡ goes_on rest m q =
-        test_fails p x rest m q unit read (λ other. nat_le other greatest) block h in
-        step_in p x start s (omega arith)
+      fails_in : holds sets question unit ≡ false → LeadsIn p x start 1 (asks question block ∷ rest) m q rest m q
+      fails_in h = step_in p x start (question_fails p x rest m q sets fits unit read question block h) (omega arith)
 
-  -- the tests of a unit lead to the block that they pick, in no more steps than they have statements
-  pub tree_run : (tree : TestTree ℕ) (next unit : ℕ) (to : List Stmt) (m : Machine) (q : List Answer) → m.unit ≡ Some unit
-      → StandsFrom (code_of p.blocks) next (inner_blocks next tree) → slice_get (code_of p.blocks) (picked tree unit) ≡ Some to
-      → LeadsIn p x start (tree_length next tree) (tree_code next tree) m q to m q
-  tree_run (leaf block) next unit to m q read stands et = step_in p x start (ap (λ o. jump o m q) et) (omega arith)
-  tree_run (test greatest block high) next unit to m q read stands et = by (nat_le unit greatest) refl et (tree_run high next unit to m q read stands)
-    where
-      rest : List Stmt
-      rest = tree_code next high
+    -- the tests of a unit lead to the block that they pick, in no more steps than they have statements
+    pub tree_run : (tree : TestTree ℕ) (next unit : ℕ) (to : List Stmt) (m : Machine) (q : List Answer) → m.unit ≡ Some unit
+        → StandsFrom (code_of p.blocks) next (inner_blocks next tree) → slice_get (code_of p.blocks) (picked sets tree unit) ≡ Some to
+        → LeadsIn p x start (tree_length next tree) (tree_code next tree) m q to m q
+    tree_run (leaf block) next unit to m q read stands et = step_in p x start (ap (λ o. jump o m q) et) (omega arith)
+    tree_run (test question block high) next unit to m q read stands et = by (holds sets question unit) refl et (tree_run high next unit to m q read stands)
+      where
+        rest : List Stmt
+        rest = tree_code next high
 
-      by : (t : Bool) → nat_le unit greatest ≡ t → slice_get (code_of p.blocks) (if t then block else picked high unit) ≡ Some to
-          → (slice_get (code_of p.blocks) (picked high unit) ≡ Some to → LeadsIn p x start (tree_length next high) rest m q to m q)
-          → LeadsIn p x start (tree_length next (test greatest block high)) (IfUnit greatest block ∷ rest) m q to m q
-      by true h e again = widen p x start (tree_length next (test greatest block high)) (holds_in greatest block unit rest m q read to h e) (omega arith)
-      by false h e again =
-          then_in p x start (tree_length next (test greatest block high)) (fails_in greatest block unit rest m q read h) (again e) (omega arith)
-  tree_run (fork greatest low high) next unit to m q read stands et =
-      by (nat_le unit greatest) refl et (tree_run low (suc next) unit to m q read low_stands)
-      (tree_run high (suc next + inner_size low) unit to m q read high_stands)
-    where
-      behind : ℕ
-      behind = suc next + inner_size low
+        by : (t : Bool) → holds sets question unit ≡ t → slice_get (code_of p.blocks) (if t then block else picked sets high unit) ≡ Some to
+            → (slice_get (code_of p.blocks) (picked sets high unit) ≡ Some to → LeadsIn p x start (tree_length next high) rest m q to m q)
+            → LeadsIn p x start (tree_length next (test question block high)) (asks question block ∷ rest) m q to m q
+        by true h e again = widen p x start (tree_length next (test question block high)) (holds_in question block unit rest m q read to h e) (omega arith)
+        by false h e again =
+            then_in p x start (tree_length next (test question block high)) (fails_in question block unit rest m q read h) (again e) (omega arith)
+    tree_run (switch cases last) next unit to m q read stands et =
+        step_in p x start (cases_step p x [] m q unit read cases last to et) (omega arith)
+    tree_run (fork question low high) next unit to m q read stands et =
+        by (holds sets question unit) refl et (tree_run low (suc next) unit to m q read low_stands)
+        (tree_run high (suc next + inner_size low) unit to m q read high_stands)
+      where
+        behind : ℕ
+        behind = suc next + inner_size low
 
-      below : List (List Stmt)
-      below = inner_blocks (suc next) low
+        below : List (List Stmt)
+        below = inner_blocks (suc next) low
 
-      above : List (List Stmt)
-      above = inner_blocks (suc next + inner_size low) high
+        above : List (List Stmt)
+        above = inner_blocks (suc next + inner_size low) high
 
-      low_stands : StandsFrom (code_of p.blocks) (suc next) (inner_blocks (suc next) low)
-      low_stands = StandsFrom-front (code_of p.blocks) (suc next) below above stands.1
+        low_stands : StandsFrom (code_of p.blocks) (suc next) (inner_blocks (suc next) low)
+        low_stands = StandsFrom-front (code_of p.blocks) (suc next) below above stands.1
 
-      high_stands : StandsFrom (code_of p.blocks) (suc next + inner_size low) (inner_blocks (suc next + inner_size low) high)
-      high_stands =
-          let e : suc next + length below ≡ suc next + inner_size low = ap (λ n. suc next + n) (length-inner_blocks (suc next) low) in
-          subst (λ n. StandsFrom (code_of p.blocks) n above) e (StandsFrom-back (code_of p.blocks) (suc next) below above stands.1)
+        high_stands : StandsFrom (code_of p.blocks) (suc next + inner_size low) (inner_blocks (suc next + inner_size low) high)
+        high_stands =
+            let e : suc next + length below ≡ suc next + inner_size low = ap (λ n. suc next + n) (length-inner_blocks (suc next) low) in
+            subst (λ n. StandsFrom (code_of p.blocks) n above) e (StandsFrom-back (code_of p.blocks) (suc next) below above stands.1)
 
-      by : (t : Bool) → nat_le unit greatest ≡ t → slice_get (code_of p.blocks) (if t then picked low unit else picked high unit) ≡ Some to
-          → (slice_get (code_of p.blocks) (picked low unit) ≡ Some to
-          → LeadsIn p x start (tree_length (suc next) low) (tree_code (suc next) low) m q to m q)
-          → (slice_get (code_of p.blocks) (picked high unit) ≡ Some to
-          → LeadsIn p x start (tree_length (suc next + inner_size low) high) (tree_code (suc next + inner_size low) high) m q to m q)
-          → LeadsIn p x start (tree_length next (fork greatest low high)) (IfUnit greatest next ∷ tree_code (suc next + inner_size low) high) m q to m q
-      by true h e again_low again_high =
-          let sum = code_length-append below above in
-          then_in p x start (tree_length next (fork greatest low high))
-          (holds_in greatest next unit (tree_code behind high) m q read (tree_code (suc next) low) h stands.0) (again_low e) (omega (arith, sum))
-      by false h e again_low again_high =
-          let sum = code_length-append below above in
-          then_in p x start (tree_length next (fork greatest low high))
-          (fails_in greatest next unit (tree_code behind high) m q read h) (again_high e) (omega (arith, sum))
+        by : (t : Bool) → holds sets question unit ≡ t → slice_get (code_of p.blocks) (if t then picked sets low unit else picked sets high unit) ≡ Some to
+            → (slice_get (code_of p.blocks) (picked sets low unit) ≡ Some to
+            → LeadsIn p x start (tree_length (suc next) low) (tree_code (suc next) low) m q to m q)
+            → (slice_get (code_of p.blocks) (picked sets high unit) ≡ Some to
+            → LeadsIn p x start (tree_length (suc next + inner_size low) high) (tree_code (suc next + inner_size low) high) m q to m q)
+            → LeadsIn p x start (tree_length next (fork question low high)) (asks question next ∷ tree_code (suc next + inner_size low) high) m q to m q
+        by true h e again_low again_high =
+            let sum = code_length-append below above in
+            then_in p x start (tree_length next (fork question low high))
+            (holds_in question next unit (tree_code behind high) m q read (tree_code (suc next) low) h stands.0) (again_low e) (omega (arith, sum))
+        by false h e again_low again_high =
+            let sum = code_length-append below above in
+            then_in p x start (tree_length next (fork question low high))
+            (fails_in question next unit (tree_code behind high) m q read h) (again_high e) (omega (arith, sum))

@@ -22,7 +22,7 @@ use Rattle.lx_layout.specs.Examples.{bytes_piece, untagged}
 use Rattle.lx_layout.specs.Halting.{Halting}
 use Rattle.lx_layout.specs.Supplied.{HasCode, IsTarget, Serves, ServesState, by_tests, reads}
 use Rattle.lx_layout.specs.Supplies.{plain_supply}
-use Rattle.lx_layout.specs.TestTrees.{TestTree, leaf, picked, test}
+use Rattle.lx_layout.specs.TestTrees.{TestTree, at_most, leaf, picked, test}
 use Rattle.lx_layout.proofs.Carrying.SuppliedCarried.{supplied_carries}
 use Rattle.lx_layout.proofs.Runs.CarriedSteps.{nothing_named}
 
@@ -126,12 +126,12 @@ module _ (names : Spellings) where
   -- ---- what the blocks serve
 
   abbrev first_tree : TestTree ℕ
-  first_tree = test 96 4 (test 97 1 (leaf 4))
+  first_tree = test (at_most 96) 4 (test (at_most 97) 1 (leaf 4))
 
   abbrev second_tree : TestTree ℕ
-  second_tree = test 97 6 (test 98 3 (leaf 6))
+  second_tree = test (at_most 97) 6 (test (at_most 98) 3 (leaf 6))
 
-  first_leads : (unit : ℕ) → Target 0 (edge_on (state_of paired.states 0).edges unit) (picked first_tree unit)
+  first_leads : (unit : ℕ) → Target 0 (edge_on (state_of paired.states 0).edges unit) (picked plain_supply.among first_tree unit)
   first_leads unit = by (nat_le unit 96) (nat_le unit 97) refl refl where
     on_a : (high : Bool) → Target 0 (if high then Some to_second else None) (if high then 1 else 4)
     on_a true = refl
@@ -142,7 +142,7 @@ module _ (names : Spellings) where
     by true high is_low is_high = subst (λ o. Target 0 o 4) (sym (low_none unit is_low)) (refl, refl)
     by false high low is_high = subst (λ o. Target 0 o (if high then 1 else 4)) (sym (on_first unit high low is_high)) (on_a high)
 
-  second_leads : (unit : ℕ) → Target 1 (edge_on (state_of paired.states 1).edges unit) (picked second_tree unit)
+  second_leads : (unit : ℕ) → Target 1 (edge_on (state_of paired.states 1).edges unit) (picked plain_supply.among second_tree unit)
   second_leads unit = by (nat_le unit 97) (nat_le unit 98) refl refl where
     on_b : (high : Bool) → Target 1 (if high then Some to_first else None) (if high then 3 else 6)
     on_b true = refl
@@ -206,7 +206,7 @@ module _ (names : Spellings) where
 
   pub pairs_carried : Carries (bytes_piece names paired_blocks) 0 untagged paired
   pairs_carried =
-      supplied_carries plain_supply halting untagged 255 paired p place saved rules 4 None 0 serves refl paired_formed (λ unit lt. omega (arith, lt)) apart
+      supplied_carries plain_supply halting untagged 255 paired p place saved rules 4 None 0 serves refl paired_formed (λ set unit. refl) (λ unit lt. omega (arith, lt)) apart
       (λ block of stands. peeks block stands) own
 
   -- it checks for no units

@@ -18,7 +18,7 @@ use Rattle.lx_layout.specs.Halting.{AreHalting, Halting, at_end, ended_accepts, 
 use Rattle.lx_layout.specs.Layout.{StandsFrom, end_block, end_size, lone_place, lone_size, own_block, own_size}
 use Rattle.lx_layout.specs.SuppliedLayout.{EachReader, blocks_by, classes_begin, end_of, end_rule_block, entry_tests_size, fall_block, lone_number, own_end, place_by, place_of, reader_size, rule_block, size_in, sized, state_end, state_size, state_way, states_begin, supplied_layout, tests_size, with_blocks}
 use Rattle.lx_layout.specs.Supplies.{Reader, Supply, entry, state}
-use Rattle.lx_layout.specs.TestTrees.{EachTest, TestTree, TestsWithin, fork, leaf, test}
+use Rattle.lx_layout.specs.TestTrees.{EachTest, TestTree, TestsWithin, fork, leaf, switch, test}
 use Rattle.lx_layout.specs.TransitionClasses.{transition_classes}
 use Rattle.lx_layout.proofs.BlockLayouts.FirstAccepts.{rule_place-within}
 use Rattle.lx_layout.proofs.ScannerLaws.CalmCodes.{At, UpAt, lower}
@@ -415,6 +415,7 @@ module _ (piece : Piece) (supply : Supply) (halting : Halting) (endings : ℕ �
           ∙ ap (λ n. reader_size None n (trees (state s))) unchecked ∙ ap (λ t. reader_size None 0 t) e)
       by (test top class high) e one = absurd (cc)
       by (fork top low high) e one = absurd (cc)
+      by (switch cases last) e one = absurd (cc)
 
   pub class_some : (s : ℕ) → Is (state s) → 0 < length (transition_classes (state_of auto.states s).edges)
   class_some s is = by (given s).edges refl

@@ -14,7 +14,7 @@ use Rattle.lx_ccode.specs.declared.piece.Stmt.TheVariants.{Goto, Need, Peek, Sta
 use Rattle.lx_layout.specs.Layout.{StandsFrom}
 use Rattle.lx_layout.specs.SuppliedLayout.{at_end_blocks, blocks_at_end, check_blocks, read_blocks, reader_blocks, refill_blocks}
 use Rattle.lx_layout.specs.Supplies.{Reader, Supply, back_code, end_test, need_code, try_code}
-use Rattle.lx_layout.specs.TestTrees.{EachTest, TestTree, depth, fork, inner_blocks, leaf, test, tree_code}
+use Rattle.lx_layout.specs.TestTrees.{EachTest, TestTree, depth, fork, inner_blocks, leaf, switch, test, tree_code}
 use Rattle.lx_layout.proofs.BlockLayouts.SplitTrees.{each-tests}
 use Rattle.lx_layout.proofs.ScannerLaws.CalmCodes.{At, UpAt, known, lower, up_asks, up_back, up_check, up_goto, up_tries}
 use Rattle.lx_layout.proofs.ScannerLaws.FewSteps.{Backs, Calm, calm_with, checks, fewer, reads_none, reads_one, stores, stores_alone, tree_calm}
@@ -65,8 +65,9 @@ module _ (piece : Piece) (supply : Supply) (reader : Reader) (units from here : 
       by : (eof : Option ℕ) → supply.eof ≡ eof → (given : TestTree ℕ) → tree ≡ given
           → StandsFrom (code_of piece.blocks) from (reader_blocks supply.stored reader eof units from given) → Home
       by None none (leaf block) is h = checks_of none units block refl is h
-      by None none (test greatest block high) is h = reads_of units (test greatest block high) is h
-      by None none (fork greatest low high) is h = reads_of units (fork greatest low high) is h
+      by None none (test question block high) is h = reads_of units (test question block high) is h
+      by None none (fork question low high) is h = reads_of units (fork question low high) is h
+      by None none (switch cases last) is h = reads_of units (switch cases last) is h
       by (Some unit) at given is h = reads_of 0 given is h
 
   -- ---- where the end was read

@@ -10,6 +10,7 @@ use Rattle.lx_layout.specs.CheckedStates.{needed}
 use Rattle.lx_layout.specs.Endings.{Ending}
 use Rattle.lx_layout.specs.Halting.{Halting}
 use Rattle.lx_layout.specs.Supplies.{Reader, Supply, need_code, try_code}
+use Rattle.lx_layout.proofs.BlockLayouts.Questions.{any_question}
 use Rattle.lx_layout.proofs.SuppliedLayouts.CommonCodes.{is_common, none-accept, none-edge, none-ending, none-fallback}
 use Rattle.lx_layout.proofs.SuppliedLayouts.EachBlock.{HoldsOfSorts}
 
@@ -80,7 +81,9 @@ module _ (Home : ℕ → Type 0) (outside : ℕ) (never : Home outside → ⊥) 
       (λ rule. Unit {0}) supply halting endings auto
   checked_sorts supply halting endings auto = record {
     jumps = λ block any at. inl refl;
-    tests = λ greatest block code any also h at. inl (nowhere code h);
+    tests = λ question block code any to h. any_question (λ statement. (at : ℕ) → ChecksAtHome at (statement ∷ code)) block (λ greatest at. inl (nowhere code h))
+        (λ unit at. inl (nowhere code h)) (λ set at. inl (nowhere code h)) question;
+    switches = λ cases last any to also at. inl refl;
     unchecked = tt;
     checks = λ reader at units block asked home any. inr (home, once-check supply.stored reader units (Goto block ∷ []) refl);
     reads = λ reader at units code asked home h. reads-home supply.stored reader at units code home (nowhere code h);

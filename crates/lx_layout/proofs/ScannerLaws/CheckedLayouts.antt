@@ -22,8 +22,9 @@ use Rattle.lx_layout.specs.Halting.{AreHalting, Halting, halted_accept, is_enter
 use Rattle.lx_layout.specs.Layout.{StandsFrom, end_blocks, saved_number}
 use Rattle.lx_layout.specs.SuppliedLayout.{EachReader, blocks_by, class_blocks, entry_of, fall_block, kept, place_of, reader_blocks, rule_block, state_way, states_begin, supplied_layout, turn_of, with_blocks}
 use Rattle.lx_layout.specs.Supplies.{Reader, Supply, need_code, state}
-use Rattle.lx_layout.specs.TestTrees.{TestTree, TestsWithin, fork, inner_size, leaf, test, tree_code}
+use Rattle.lx_layout.specs.TestTrees.{TestTree, TestsWithin, fork, inner_size, leaf, switch, test, tree_code}
 use Rattle.lx_layout.specs.TransitionClasses.{transition_classes}
+use Rattle.lx_layout.proofs.BlockLayouts.Questions.{any_question}
 use Rattle.lx_layout.proofs.Carrying.RunStates.{edge_within}
 use Rattle.lx_layout.proofs.ScannerLaws.CheckedCodes.{ChecksAtHome, ChecksNone, IsCheckFor, checked_sorts, needed-check, none_needed, others_check}
 use Rattle.lx_layout.proofs.SuppliedLayouts.ApartPlaces.{entered_place, size_some}
@@ -40,8 +41,14 @@ use Rattle.lx_layout.proofs.SuppliedLayouts.WholeLayout.{begin_in-high}
 
 tree_none : (next : ℕ) (tree : TestTree ℕ) → ChecksNone (tree_code next tree)
 tree_none next (leaf block) = refl
-tree_none next (test greatest block high) = tree_none next high
-tree_none next (fork greatest low high) = tree_none (suc next + inner_size low) high
+tree_none next (test question block high) =
+    let again = tree_none next high in
+    any_question (λ statement. ChecksNone (statement ∷ tree_code next high)) block (λ greatest. again) (λ unit. again) (λ set. again) question
+tree_none next (fork question low high) =
+    let again = tree_none (suc next + inner_size low) high in
+    any_question (λ statement. ChecksNone (statement ∷ tree_code (suc next + inner_size low) high)) next (λ greatest. again) (λ unit. again)
+    (λ set. again) question
+tree_none next (switch cases last) = refl
 
 -- Where what stands behind the tests of a reader checks for nothing first, the first block checks for the reader's units.
 module _ (blocks : List (List Stmt)) (stored : Option (Reader → ℕ)) (reader : Reader) (from : ℕ) (rest : List (List Stmt))
@@ -53,16 +60,21 @@ module _ (blocks : List (List Stmt)) (stored : Option (Reader → ℕ)) (reader 
       let own = stands.0 in
       let same : need_code stored reader (suc units) (Goto block ∷ []) ≡ code = cc in
       ap needed (sym same) ∙ needed-check stored reader (suc units) (Goto block ∷ []) refl
-  reader_first units (test greatest block high) stands code is =
+  reader_first units (test question block high) stands code is =
       let own = stands.0 in
-      let same : need_code stored reader units (Peek ∷ tree_code (suc from) (test greatest block high)) ≡ code = cc in
+      let same : need_code stored reader units (Peek ∷ tree_code (suc from) (test question block high)) ≡ code = cc in
       ap needed (sym same)
-      ∙ needed-check stored reader units (Peek ∷ tree_code (suc from) (test greatest block high)) (tree_none (suc from) (test greatest block high))
-  reader_first units (fork greatest low high) stands code is =
+      ∙ needed-check stored reader units (Peek ∷ tree_code (suc from) (test question block high)) (tree_none (suc from) (test question block high))
+  reader_first units (fork question low high) stands code is =
       let own = stands.0 in
-      let same : need_code stored reader units (Peek ∷ tree_code (suc from) (fork greatest low high)) ≡ code = cc in
+      let same : need_code stored reader units (Peek ∷ tree_code (suc from) (fork question low high)) ≡ code = cc in
       ap needed (sym same)
-      ∙ needed-check stored reader units (Peek ∷ tree_code (suc from) (fork greatest low high)) (tree_none (suc from) (fork greatest low high))
+      ∙ needed-check stored reader units (Peek ∷ tree_code (suc from) (fork question low high)) (tree_none (suc from) (fork question low high))
+  reader_first units (switch cases last) stands code is =
+      let own = stands.0 in
+      let same : need_code stored reader units (Peek ∷ tree_code (suc from) (switch cases last)) ≡ code = cc in
+      ap needed (sym same)
+      ∙ needed-check stored reader units (Peek ∷ tree_code (suc from) (switch cases last)) (tree_none (suc from) (switch cases last))
 
   kept_first : (t : Bool) (eof : Option ℕ) (units : ℕ) (tree : TestTree ℕ) → t ≡ true → eof ≡ None
       → StandsFrom blocks from (kept t (reader_blocks stored reader eof units from tree) ++ rest)

@@ -23,7 +23,7 @@ use Rattle.lx_layout.specs.Halting.{AreHalting, Halting, is_entered, saved_accep
 use Rattle.lx_layout.specs.Layout.{StandsFrom, lone_blocks, lone_code, saved_number}
 use Rattle.lx_layout.specs.SuppliedLayout.{EachReader, blocks_by, entry_by, entry_of, fall_block, lone_number, place_by, place_of, rule_block, supplied_layout, with_blocks}
 use Rattle.lx_layout.specs.Supplies.{Reader, Supply, entry, state}
-use Rattle.lx_layout.specs.TestTrees.{IsTreeOf, TestTree, TestsWithin, depth, fork, leaf, test}
+use Rattle.lx_layout.specs.TestTrees.{IsTreeOf, TestTree, TestsWithin, depth, fork, leaf, switch, test}
 use Rattle.lx_layout.specs.UnitApart.{reader_split}
 use Rattle.lx_layout.proofs.Carrying.RunStates.{edge_within}
 use Rattle.lx_layout.proofs.ScannerLaws.CalmCodes.{At}
@@ -48,8 +48,9 @@ use Rattle.lx_layout.proofs.SuppliedLayouts.StoredNothing.{layout_stores_nothing
 -- blocks in place of classes leave a tree as deep as it was
 depth-with_blocks : (block : Option ℕ → ℕ) (tree : TestTree (Option ℕ)) → depth (with_blocks block tree) ≡ depth tree
 depth-with_blocks block (leaf class) = refl
-depth-with_blocks block (test greatest class high) = ap suc (depth-with_blocks block high)
-depth-with_blocks block (fork greatest low high) = ap₂ (λ a b. suc (max a b)) (depth-with_blocks block low) (depth-with_blocks block high)
+depth-with_blocks block (switch cases last) = refl
+depth-with_blocks block (test question class high) = ap suc (depth-with_blocks block high)
+depth-with_blocks block (fork question low high) = ap₂ (λ a b. suc (max a b)) (depth-with_blocks block low) (depth-with_blocks block high)
 
 unit_of : (eof : Option ℕ) → IsSome eof → (unit : ℕ) × (eof ≡ Some unit)
 unit_of None some = absurd (cc)

@@ -1,7 +1,8 @@
 -- How often a unit is tested in steps from some code on, with so many units read at most.
-use Rattle.std.specs.Prelude.{◌≡◌, ℕ, zero, suc, ◌+◌, ◌≤◌, max, Bool, true, false, List, [], ◌∷◌, length, Option, Some, None, nat_le, nat_lt, refl, slice_get, if◌then◌else◌}
+use Rattle.std.specs.Prelude.{◌≡◌, ℕ, zero, suc, ◌+◌, ◌≤◌, max, Bool, true, false, List, [], ◌∷◌, length, Option, Some, None, nat_lt, refl, slice_get, if◌then◌else◌}
 use Rattle.std.proofs.Common.{sym, ap, ◌∙◌, subst, arith, true≢false}
-use Rattle.lx_ccode.specs.Machine.{Answer, Machine, Next, Outcome, Refill, at_end, back, choose, code_at, come_back, ends, goes_on, has_units, if_unit, jump, left, more, need, no_more, peek, refilled, skip, step, stored_block, try, unanswered, units_of_all, unit_at}
+use Rattle.std.specs.List.{AllByRecursion}
+use Rattle.lx_ccode.specs.Machine.{Answer, Machine, Next, Outcome, Refill, at_end, back, case_block, choose, code_at, come_back, ends, goes_on, has_units, if_unit, is_among, jump, left, more, need, no_more, peek, refilled, skip, step, stored_block, switch_unit, try, unanswered, unit_at, units_of_all}
 use Rattle.lx_ccode.specs.States.{state_block}
 use Rattle.lx_ccode.specs.Statements.{code_of}
 use Rattle.lx_ccode.specs.Traces.{count_made, is_peek, trace, traced}
@@ -11,8 +12,9 @@ use Rattle.lx_ccode.specs.declared.piece.Stmt.{Stmt}
 use Rattle.lx_ccode.specs.declared.piece.Stmt.TheVariants.{Peek, Skip, Backup, Restore, Accept, Set, Unset, Copy, MSet, MUnset, MCopy, IfUnit, IfIs, IfSet, IfAccept, IfEnd, State, Need, Try, Cond, Tag, Count, End, Back, Switch, Goto, Leave, Code, Jump}
 use Rattle.lx_layout.specs.Layout.{StandsFrom}
 use Rattle.lx_layout.specs.TestRuns.{is_test}
-use Rattle.lx_layout.specs.TestTrees.{EachTest, TestTree, depth, fork, inner_blocks, inner_size, leaf, test, tree_code}
+use Rattle.lx_layout.specs.TestTrees.{EachTest, Question, TestTree, asks, case_way, depth, fork, holds, inner_blocks, inner_size, leaf, switch, switch_cases, test, tree_code}
 use Rattle.lx_layout.proofs.BlockLayouts.CodesInBlocks.{StandsFrom-back, StandsFrom-front}
+use Rattle.lx_layout.proofs.BlockLayouts.Questions.{any_question, asks_step, case_block-ways, case_way-each, is_peek-asks}
 use Rattle.lx_layout.proofs.BlockLayouts.TreeCodes.{length-inner_blocks}
 
 -- the statement neither reads nor tests a unit, jumps, stores a state or asks for a refill
@@ -270,41 +272,87 @@ module _ (piece : Piece) (stream : List ℕ) (Stored : ℕ → Type 0) where
 
   -- ---- the tests
 
-  tests : (most n greatest block : ℕ) (rest : List Stmt) → CalmAt 0 most n block → Calm 0 most n rest → Calm 0 (suc most) (suc n) (IfUnit greatest block ∷ rest)
-  tests most n greatest block rest h g zero le machine answers ok few = omega arith
-  tests most n greatest block rest h g (suc steps) le machine answers ok few =
-      by (step piece stream (IfUnit greatest block) rest machine answers) (stepped machine.unit) few
+  -- a question is one test, and reads nothing
+  counted_test : (question : Question) (block : ℕ) → ◌≡◌ {A = ℕ} (if is_test (asks question block) then 1 else 0) 1
+  counted_test question block =
+      any_question (λ statement. ◌≡◌ {A = ℕ} (if is_test statement then 1 else 0) 1) block (λ greatest. refl) (λ unit. refl) (λ set. refl) question
+
+  counted_read : (question : Question) (block : ℕ) → ◌≡◌ {A = ℕ} (if is_peek (asks question block) then 1 else 0) 0
+  counted_read question block = ap {B = ℕ} (λ t. if t then 1 else 0) (is_peek-asks question block)
+
+  tests : (most n : ℕ) (question : Question) (block : ℕ) (rest : List Stmt) → CalmAt 0 most n block → Calm 0 most n rest
+      → Calm 0 (suc most) (suc n) (asks question block ∷ rest)
+  tests most n question block rest h g zero le machine answers ok few = omega arith
+  tests most n question block rest h g (suc steps) le machine answers ok few =
+      by (step piece stream (asks question block) rest machine answers) after_step few
     where
       by : (next : Next) → After 0 most steps next
-          → count_made is_peek (traced piece stream (IfUnit greatest block) (trace piece stream steps) next).made ≤ 0
-          → count_made is_test (traced piece stream (IfUnit greatest block) (trace piece stream steps) next).made ≤ suc most
+          → count_made is_peek (traced piece stream (asks question block) (trace piece stream steps) next).made ≤ 0
+          → count_made is_test (traced piece stream (asks question block) (trace piece stream steps) next).made ≤ suc most
+      by (goes_on code next others) after few =
+          let one = counted_test question block in
+          let none = counted_read question block in
+          let least = after (omega (arith, few, none)) in
+          omega (arith, least, one)
+      by (ends outcome next) after few = let one = counted_test question block in omega (arith, one)
+
+      stepped : (o : Option ℕ)
+          → After 0 most steps (if_unit o (holds (is_among piece.table) question) (code_at piece.blocks (Some block)) rest machine answers)
+      stepped None = tt
+      stepped (Some unit) =
+          chosen 0 most n steps (holds (is_among piece.table) question unit) (code_at piece.blocks (Some block)) rest machine answers
+          (λ code is. h code is steps (omega (arith, le)) machine answers ok) (g steps (omega (arith, le)) machine answers ok)
+
+      after_step : After 0 most steps (step piece stream (asks question block) rest machine answers)
+      after_step = subst (λ next. After 0 most steps next) (sym (asks_step piece stream rest machine answers question block)) (stepped machine.unit)
+
+  -- a jump by the unit
+  switches : (n : ℕ) (cases : List (List ℕ × ℕ)) (last : ℕ) → AllByRecursion (λ case. CalmAt 0 0 n case.1) cases → CalmAt 0 0 n last
+      → Calm 0 1 (suc n) (Switch (switch_cases cases) last ∷ [])
+  switches n cases last h own zero le machine answers ok few = omega arith
+  switches n cases last h own (suc steps) le machine answers ok few =
+      by (step piece stream (Switch (switch_cases cases) last) [] machine answers) (stepped machine.unit) few
+    where
+      by : (next : Next) → After 0 0 steps next
+          → count_made is_peek (traced piece stream (Switch (switch_cases cases) last) (trace piece stream steps) next).made ≤ 0
+          → count_made is_test (traced piece stream (Switch (switch_cases cases) last) (trace piece stream steps) next).made ≤ 1
       by (goes_on code next others) after few = let least = after (omega (arith, few)) in omega (arith, least)
       by (ends outcome next) after few = omega arith
 
-      stepped : (o : Option ℕ) → After 0 most steps (if_unit o (λ unit. nat_le unit greatest) (code_at piece.blocks (Some block)) rest machine answers)
+      led : (unit block : ℕ) → CalmAt 0 0 n block → After 0 0 steps (jump (code_at piece.blocks (Some block)) machine answers)
+      led unit block calm = there (code_at piece.blocks (Some block)) refl
+        where
+          there : (o : Option (List Stmt)) → code_at piece.blocks (Some block) ≡ o → After 0 0 steps (jump o machine answers)
+          there None is = tt
+          there (Some code) is = calm code is steps (omega (arith, le)) machine answers ok
+
+      stepped : (o : Option ℕ)
+          → After 0 0 steps (switch_unit o (λ unit. code_at piece.blocks (Some (case_block (switch_cases cases) last unit))) machine answers)
       stepped None = tt
       stepped (Some unit) =
-          chosen 0 most n steps (nat_le unit greatest) (code_at piece.blocks (Some block)) rest machine answers
-          (λ code is. h code is steps (omega (arith, le)) machine answers ok) (g steps (omega (arith, le)) machine answers ok)
+          subst (λ block. After 0 0 steps (jump (code_at piece.blocks (Some block)) machine answers)) (sym (case_block-ways cases last unit))
+          (led unit (case_way cases last unit) (case_way-each (CalmAt 0 0 n) cases last unit h own))
 
   -- by a tree that leads to calm blocks
   pub tree_calm : (n : ℕ) (tree : TestTree ℕ) (next : ℕ) → StandsFrom (code_of piece.blocks) next (inner_blocks next tree)
       → EachTest (λ unit. Unit {0}) (CalmAt 0 0 n) tree → Calm 0 (depth tree) n (tree_code next tree)
   tree_calm n (leaf block) next stands leads = fewer 0 0 n (Goto block ∷ []) (goto 0 0 n block [] leads)
-  tree_calm n (test greatest block high) next stands leads =
+  tree_calm n (switch cases last) next stands leads =
+      fewer 0 1 n (Switch (switch_cases cases) last ∷ []) (switches n cases last leads.1 leads.2)
+  tree_calm n (test question block high) next stands leads =
       let again = tree_calm n high next stands leads.2 in
-      fewer 0 (suc (depth high)) n (IfUnit greatest block ∷ tree_code next high)
-      (tests (depth high) n greatest block (tree_code next high)
+      fewer 0 (suc (depth high)) n (asks question block ∷ tree_code next high)
+      (tests (depth high) n question block (tree_code next high)
       (λ code is. more_tests 0 0 (depth high) n code (omega arith) (leads.1 code is)) again)
-  tree_calm n (fork greatest low high) next stands leads =
+  tree_calm n (fork question low high) next stands leads =
       let below : List (List Stmt) = inner_blocks (suc next) low in
       let above : List (List Stmt) = inner_blocks (suc next + inner_size low) high in
       let e : suc next + length below ≡ suc next + inner_size low = ap (λ n. suc next + n) (length-inner_blocks (suc next) low) in
       let low_calm = tree_calm n low (suc next) (StandsFrom-front (code_of piece.blocks) (suc next) below above stands.1) leads.1 in
       let high_calm = tree_calm n high (suc next + inner_size low)
       (subst (λ n. StandsFrom (code_of piece.blocks) n above) e (StandsFrom-back (code_of piece.blocks) (suc next) below above stands.1)) leads.2 in
-      fewer 0 (suc (max (depth low) (depth high))) n (IfUnit greatest next ∷ tree_code (suc next + inner_size low) high)
-      (tests (max (depth low) (depth high)) n greatest next (tree_code (suc next + inner_size low) high)
+      fewer 0 (suc (max (depth low) (depth high))) n (asks question next ∷ tree_code (suc next + inner_size low) high)
+      (tests (max (depth low) (depth high)) n question next (tree_code (suc next + inner_size low) high)
       (λ code is.
       let own = stands.0 in
       let same : tree_code (suc next) low ≡ code = cc in

@@ -9,7 +9,7 @@ use Rattle.lx_auto.specs.declared.automaton.State.{State}
 use Rattle.lx_auto.specs.declared.ops.Op.{Op}
 use Rattle.lx_auto.specs.declared.ops.Op.TheVariants.{Here, Null, Copy, MHere, MNull, MCopy}
 use Rattle.lx_ccode.specs.declared.piece.Stmt.{Stmt}
-use Rattle.lx_ccode.specs.declared.piece.Stmt.TheVariants.{Back, Backup, Accept as SaveAccept, Code, Cond, Count, End, Goto, IfAccept, IfEnd, IfUnit, Jump, Leave, Need, Peek, Restore, Skip, State as Store, Tag, Try}
+use Rattle.lx_ccode.specs.declared.piece.Stmt.TheVariants.{Accept as SaveAccept, Back, Backup, Code, Cond, Count, End, Goto, IfAccept, IfEnd, IfIs, IfSet, IfUnit, Jump, Leave, Need, Peek, Restore, Skip, State as Store, Switch, Tag, Try}
 use Rattle.lx_sequence.specs.ParallelCopies.{sequentialized}
 use Rattle.lx_layout.specs.Codes.{Choice, list_code, op_code, ops_code, save_code}
 use Rattle.lx_layout.specs.EndedRules.{ended_rule, is_given}
@@ -17,7 +17,9 @@ use Rattle.lx_layout.specs.Endings.{Ending, ending_code}
 use Rattle.lx_layout.specs.Fallback.{edge_code, fallback_code}
 use Rattle.lx_layout.specs.Halting.{Halting, saves_on}
 use Rattle.lx_layout.specs.Supplies.{Reader, Supply, need_code, store_code}
+use Rattle.lx_layout.proofs.BlockLayouts.Questions.{any_question}
 use Rattle.lx_layout.proofs.SuppliedLayouts.EachBlock.{HoldsOfSorts}
+use Rattle.lx_layout.specs.TestTrees.{switch_cases}
 
 -- no rule ends by the statement, or gives a value
 abbrev pub is_inner : Stmt → Bool
@@ -89,7 +91,10 @@ module _ (ok : Stmt → Bool) (all : (statement : Stmt) → is_inner statement �
       (λ units. Unit {0}) (λ given edge. Unit {0}) (λ accept. Unit {0}) (λ rule. Unit {0}) supply halting endings auto
   sorts_ok supply halting endings auto last ends = record {
     jumps = λ block any at. goto_ok block;
-    tests = λ greatest block code any to h at. more (IfUnit greatest block) code refl (h at);
+    tests = λ question block code any to h. any_question (λ statement. (at : ℕ) → AllByRecursion (λ statement. ok statement ≡ true) (statement ∷ code)) block
+        (λ greatest at. more (IfUnit greatest block) code refl (h at)) (λ unit at. more (IfIs unit block) code refl (h at))
+        (λ set at. more (IfSet set block) code refl (h at)) question;
+    switches = λ cases last any to also at. more (Switch (switch_cases cases) last) [] refl tt;
     unchecked = tt;
     checks = λ reader at units block asked own to. need_ok supply.stored reader (suc units) (Goto block ∷ []) (goto_ok block);
     reads = λ reader at units code asked own h. need_ok supply.stored reader units (Peek ∷ code) (more Peek code refl (h at));

@@ -7,17 +7,19 @@ use Rattle.lx_ccode.specs.Statements.{is_state, state_of}
 use Rattle.lx_ccode.specs.States.{states_in, try_first}
 use Rattle.lx_ccode.specs.declared.piece.StateCase.{StateCase}
 use Rattle.lx_ccode.specs.declared.piece.Stmt.{Stmt}
-use Rattle.lx_ccode.specs.declared.piece.Stmt.TheVariants.{Goto, Peek, State as Store}
+use Rattle.lx_ccode.specs.declared.piece.Stmt.TheVariants.{Goto, Peek, State as Store, Switch}
 use Rattle.lx_layout.specs.Codes.{accept_code, restore_code}
 use Rattle.lx_layout.specs.Endings.{Ending, ending_code}
 use Rattle.lx_layout.specs.Fallback.{edge_code, fallback_code}
 use Rattle.lx_layout.specs.Halting.{Halting}
 use Rattle.lx_layout.specs.Supplies.{Reader, Supply, back_code, end_test, need_code, try_code}
+use Rattle.lx_layout.proofs.BlockLayouts.Questions.{any_question}
 use Rattle.lx_layout.proofs.Supplied.StoredStates.{IsAmong, among_onto}
 use Rattle.lx_layout.proofs.SuppliedLayouts.CommonCodes.{none-accept, none-edge, none-ending, none-fallback}
 use Rattle.lx_layout.proofs.SuppliedLayouts.EachBlock.{HoldsOfSorts}
 use Rattle.lx_layout.proofs.SuppliedLayouts.ReturnBlocks.{none_head}
 use Rattle.lx_layout.proofs.SuppliedLayouts.StoredNothing.{others_store}
+use Rattle.lx_layout.specs.TestTrees.{switch_cases}
 
 module _ (supply : Supply) (R : Reader → ℕ → Type 0) where
   -- a reader's own block
@@ -77,7 +79,9 @@ module _ (supply : Supply) (R : Reader → ℕ → Type 0) where
       (λ rule. Unit {0}) supply halting endings auto
   stored_sorts halting endings auto = record {
     jumps = λ block any at. stores_none at (Goto block ∷ []) refl;
-    tests = λ greatest block code any also h at. ((λ number is. absurd (cc)), h at);
+    tests = λ question block code any to h. any_question (λ statement. (at : ℕ) → StoresAt at (statement ∷ code)) block (λ greatest at. ((λ number is. absurd (cc)), h at))
+        (λ unit at. ((λ number is. absurd (cc)), h at)) (λ set at. ((λ number is. absurd (cc)), h at)) question;
+    switches = λ cases last any to also at. stores_none at (Switch (switch_cases cases) last ∷ []) refl;
     unchecked = tt;
     checks = λ reader at units block asked own any. stores_check supply.stored reader (suc units) at (Goto block ∷ []) own (stores_none at (Goto block ∷ []) refl);
     reads = λ reader at units code asked own h.

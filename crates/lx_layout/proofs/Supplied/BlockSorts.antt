@@ -16,8 +16,9 @@ use Rattle.lx_layout.specs.Fallback.{edge_code}
 use Rattle.lx_layout.specs.Halting.{Halting, saves_on}
 use Rattle.lx_layout.specs.Layout.{StandsFrom}
 use Rattle.lx_layout.specs.Supplies.{Reader, need_code}
-use Rattle.lx_layout.specs.TestTrees.{TestTree, fork, inner_blocks, inner_size, leaf, test, tree_code}
+use Rattle.lx_layout.specs.TestTrees.{Question, TestTree, asks, fork, inner_blocks, inner_size, leaf, switch, test, tree_code}
 use Rattle.lx_layout.proofs.BlockLayouts.CodesInBlocks.{others}
+use Rattle.lx_layout.proofs.BlockLayouts.Questions.{any_question}
 use Rattle.lx_layout.proofs.Validity.EachElement.{each-append}
 
 -- a block reads a unit, passes one, tests whether the limit is reached, asks for a refill there, or does none of these
@@ -108,15 +109,22 @@ lengths_of-block sort blocks i code is e = let h = lengths_of-row sort blocks i 
 
 -- ---- the sorts of codes
 
+sort_of-asks : (question : Question) (block : ℕ) (code : List Stmt) → sort_of code ≡ other → sort_of (asks question block ∷ code) ≡ other
+sort_of-asks question block code is =
+    any_question (λ statement. sort_of (statement ∷ code) ≡ other) block (λ greatest. is) (λ unit. is) (λ set. is) question
+
 pub sort_of-tree : (next : ℕ) (tree : TestTree ℕ) → sort_of (tree_code next tree) ≡ other
 sort_of-tree next (leaf block) = refl
-sort_of-tree next (test greatest block high) = sort_of-tree next high
-sort_of-tree next (fork greatest low high) = sort_of-tree (suc next + inner_size low) high
+sort_of-tree next (test question block high) = sort_of-asks question block (tree_code next high) (sort_of-tree next high)
+sort_of-tree next (fork question low high) =
+    sort_of-asks question next (tree_code (suc next + inner_size low) high) (sort_of-tree (suc next + inner_size low) high)
+sort_of-tree next (switch cases last) = refl
 
 pub sorts_of-inner : (next : ℕ) (tree : TestTree ℕ) → AllByRecursion (λ code. sort_of code ≡ other) (inner_blocks next tree)
 sorts_of-inner next (leaf block) = tt
-sorts_of-inner next (test greatest block high) = sorts_of-inner next high
-sorts_of-inner next (fork greatest low high) = (
+sorts_of-inner next (switch cases last) = tt
+sorts_of-inner next (test question block high) = sorts_of-inner next high
+sorts_of-inner next (fork question low high) = (
   sort_of-tree (suc next) low,
   each-append (λ code. sort_of code ≡ other) (inner_blocks (suc next) low) (inner_blocks (suc next + inner_size low) high)
       (sorts_of-inner (suc next) low) (sorts_of-inner (suc next + inner_size low) high),

@@ -12,6 +12,7 @@ use Rattle.lx_layout.specs.Layout.{StandsFrom}
 use Rattle.lx_layout.specs.RightInMode.{AreStoredBy}
 use Rattle.lx_layout.specs.Supplies.{Reader, Supply, need_code}
 use Rattle.lx_layout.specs.TestTrees.{TestTree, inner_blocks, picked, tree_code}
+use Rattle.lx_layout.proofs.BlockLayouts.Questions.{FitsTable}
 use Rattle.lx_layout.proofs.BlockLayouts.TreeCodes.{tree_length}
 use Rattle.lx_layout.proofs.Runs.PartialRuns.{LeadsIn, stays_in, step_in, then_in}
 use Rattle.lx_layout.proofs.Runs.OperationSteps.{tree_run}
@@ -52,7 +53,7 @@ module _ (p : Piece) (x : List ℕ) (start : ℕ) (supply : Supply) (units block
         reads unit.0 block code lim u kept q buffer 0 unit.1 lt (λ none. omega (arith, no_check, lt)) (leads unit.0 (small unit.0 unit.1)) stands b
         (Refilled-none lim q) (stays_in p x start 0 code (mach lim u kept) q) (omega (arith, n))
 
-    module _ (none : supply.eof ≡ None) (reader : Reader) (stored : AreStoredBy supply.stored p) where
+    module _ (none : supply.eof ≡ None) (reader : Reader) (stored : AreStoredBy supply.stored p) (fits : FitsTable supply.among p) where
       -- it jumps there
       pub jump_run : (to : ℕ) → slice_get (code_of p.blocks) block ≡ Some (need_code supply.stored reader units (Goto to ∷ []))
           → ((unit : ℕ) → leads_on unit → Leads unit to) → (lim : ℕ) (u kept : Option ℕ) (q : List Answer) (buffer : Buffer) → Buffers lim q buffer
@@ -60,7 +61,7 @@ module _ (p : Piece) (x : List ℕ) (start : ℕ) (supply : Supply) (units block
       jump_run to stands leads lim u kept q buffer b le there =
           front_run p x start supply units block Leads Ends pos mk ac first k cond supply.stored reader stored none units refl (Goto to ∷ []) stands lim u
           kept q buffer b le there
-          (λ lim' u' kept' q' buffer' steps lt enough b' r led fits.
+          (λ lim' u' kept' q' buffer' steps lt enough b' r led room_left.
           let unit = unit_there x pos lim' lt b'.within in
           let goal : Leads unit.0 to = leads unit.0 (small unit.0 unit.1) in
           let next = target unit.0 to goal in
@@ -70,28 +71,28 @@ module _ (p : Piece) (x : List ℕ) (start : ℕ) (supply : Supply) (units block
           let one = step_in p x start {s = Goto to} {b = []} {b' = next.0} {m = mach lim' u' kept'} {m' = mach lim' u' kept'} {q = q'}
           (ap (λ o. jump o (mach lim' u' kept') q') next.1) (omega arith) in
           reads unit.0 to next.0 lim' u' kept' q' buffer' (steps + 1) unit.1 lt (λ none. enough) goal next.1 b' r
-          (then_in p x start (steps + 1) led one (omega arith)) (omega (arith, n, own, fits)))
+          (then_in p x start (steps + 1) led one (omega arith)) (omega (arith, n, own, room_left)))
 
       -- it tests the unit
       pub tests_run : (tree : TestTree ℕ) (above : ℕ)
           → slice_get (code_of p.blocks) block ≡ Some (need_code supply.stored reader units (Peek ∷ tree_code above tree))
-          → StandsFrom (code_of p.blocks) above (inner_blocks above tree) → ((unit : ℕ) → leads_on unit → Leads unit (picked tree unit))
+          → StandsFrom (code_of p.blocks) above (inner_blocks above tree) → ((unit : ℕ) → leads_on unit → Leads unit (picked supply.among tree unit))
           → (lim : ℕ) (u kept : Option ℕ) (q : List Answer) (buffer : Buffer) → Buffers lim q buffer → pos ≤ lim → (units ≡ 0 → pos < lim)
           → Going (need_code supply.stored reader units (Peek ∷ tree_code above tree)) lim u kept q
       tests_run tree above stands row leads lim u kept q buffer b le there =
           front_run p x start supply units block Leads Ends pos mk ac first k cond supply.stored reader stored none units refl
           (Peek ∷ tree_code above tree) stands lim u kept q buffer b le there
-          (λ lim' u' kept' q' buffer' steps lt enough b' r led fits.
+          (λ lim' u' kept' q' buffer' steps lt enough b' r led room_left.
           let unit = unit_there x pos lim' lt b'.within in
-          let goal : Leads unit.0 (picked tree unit.0) = leads unit.0 (small unit.0 unit.1) in
-          let next = target unit.0 (picked tree unit.0) goal in
+          let goal : Leads unit.0 (picked supply.among tree unit.0) = leads unit.0 (small unit.0 unit.1) in
+          let next = target unit.0 (picked supply.among tree unit.0) goal in
           let n = lengths_within (code_of p.blocks) in
           let own = lengths_of-block reading (code_of p.blocks) block (need_code supply.stored reader units (Peek ∷ tree_code above tree)) stands
           (sort_of-need supply.stored reader units (Peek ∷ tree_code above tree)) in
           let inner = lengths_of-row other (code_of p.blocks) above (inner_blocks above tree) row (sorts_of-inner above tree) in
           let one = peek_run (tree_code above tree) lim' u' kept' q' unit.0 unit.1 lt in
-          let tests = tree_run p x start tree above unit.0 next.0 (mach lim' (Some unit.0) kept') q' refl row next.1 in
-          reads unit.0 (picked tree unit.0) next.0 lim' (Some unit.0) kept' q' buffer' (steps + suc (tree_length above tree)) unit.1 lt (λ none. enough) goal
+          let tests = tree_run p x start supply.among fits tree above unit.0 next.0 (mach lim' (Some unit.0) kept') q' refl row next.1 in
+          reads unit.0 (picked supply.among tree unit.0) next.0 lim' (Some unit.0) kept' q' buffer' (steps + suc (tree_length above tree)) unit.1 lt (λ none. enough) goal
           next.1 b' r
           (then_in p x start (steps + suc (tree_length above tree)) led (then_in p x start (suc (tree_length above tree)) one tests (omega arith))
-          (omega arith)) (omega (arith, n, own, inner, fits)))
+          (omega arith)) (omega (arith, n, own, inner, room_left)))

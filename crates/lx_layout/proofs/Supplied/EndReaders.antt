@@ -14,6 +14,7 @@ use Rattle.lx_layout.specs.Layout.{StandsFrom}
 use Rattle.lx_layout.specs.RightInMode.{AreStoredBy}
 use Rattle.lx_layout.specs.Supplies.{Reader, Supply, back_code, end_test, try_code}
 use Rattle.lx_layout.specs.TestTrees.{TestTree, inner_blocks, picked, tree_code}
+use Rattle.lx_layout.proofs.BlockLayouts.Questions.{FitsTable}
 use Rattle.lx_layout.proofs.BlockLayouts.TreeCodes.{tree_length}
 use Rattle.lx_layout.proofs.Runs.PartialRuns.{LeadsIn, end_in, last_in, step_in, then_in, widen}
 use Rattle.lx_layout.proofs.Runs.OperationSteps.{tree_run}
@@ -35,23 +36,24 @@ module _ (p : Piece) (x : List ℕ) (start : ℕ) (supply : Supply) (units block
   Buffers lim q buffer = Buffered (length x) start (stores_states p) lim q buffer
 
   -- the unit at the end is read and then told apart
-  module _ (eof : ℕ) (is : supply.eof ≡ Some eof) (at_limit : p.eof ≡ Some eof) (tree : TestTree ℕ) (above asked to : ℕ)
+  module _ (eof : ℕ) (is : supply.eof ≡ Some eof) (at_limit : p.eof ≡ Some eof)
+      (fits : FitsTable supply.among p) (tree : TestTree ℕ) (above asked to : ℕ)
       (stands : slice_get (code_of p.blocks) block ≡ Some (Peek ∷ tree_code above tree))
       (row : StandsFrom (code_of p.blocks) above (inner_blocks above tree))
-      (apart : slice_get (code_of p.blocks) (picked tree eof) ≡ Some (end_test asked to)) where
+      (apart : slice_get (code_of p.blocks) (picked supply.among tree eof) ≡ Some (end_test asked to)) where
     -- with the tests and the test of the end there is room for what asks and for what passes the unit
-    fits : suc (tree_length above tree) + 2 + lengths_of asking (code_of p.blocks) + lengths_of passing (code_of p.blocks) ≤ statement_count p.blocks
-    fits =
+    has_room : suc (tree_length above tree) + 2 + lengths_of asking (code_of p.blocks) + lengths_of passing (code_of p.blocks) ≤ statement_count p.blocks
+    has_room =
         let n = lengths_within (code_of p.blocks) in
         let own = lengths_of-block reading (code_of p.blocks) block (Peek ∷ tree_code above tree) stands refl in
         let inner = lengths_of-row other (code_of p.blocks) above (inner_blocks above tree) row (sorts_of-inner above tree) in
-        let test = lengths_of-block testing (code_of p.blocks) (picked tree eof) (end_test asked to) apart refl in
+        let test = lengths_of-block testing (code_of p.blocks) (picked supply.among tree eof) (end_test asked to) apart refl in
         omega (arith, n, own, inner, test)
 
     -- ---- a unit is there
     pub unit_run : (target : (unit to : ℕ) → Leads unit to → (next : List Stmt) × (slice_get (code_of p.blocks) to ≡ Some next))
         (leads_on : ℕ → Type 0) → ((unit : ℕ) → slice_get x pos ≡ Some unit → leads_on unit)
-        → ((unit : ℕ) → leads_on unit → unit ≢ eof → Leads unit (picked tree unit)) → (leads_on eof → Leads eof to)
+        → ((unit : ℕ) → leads_on unit → unit ≢ eof → Leads unit (picked supply.among tree unit)) → (leads_on eof → Leads eof to)
         → (lim : ℕ) (u kept : Option ℕ) (q : List Answer) (buffer : Buffer) → Buffers lim q buffer → pos < lim
         → Going (Peek ∷ tree_code above tree) lim u kept q
     unit_run target leads_on small leads leads_eof lim u kept q buffer b lt = by (nat_eq unit.0 eof) refl
@@ -70,8 +72,8 @@ module _ (p : Piece) (x : List ℕ) (start : ℕ) (supply : Supply) (units block
             let same : unit.0 ≡ eof = eqb-true unit.0 eof e in
             let goal : Leads unit.0 to = subst (λ n. Leads n to) (sym same) (leads_eof (subst leads_on same (small unit.0 unit.1))) in
             let next = target unit.0 to goal in
-            let tests = tree_run p x start tree above unit.0 (end_test asked to) (mach lim (Some unit.0) kept) q refl row
-            (ap (λ n. slice_get (code_of p.blocks) (picked tree n)) same ∙ apart) in
+            let tests = tree_run p x start supply.among fits tree above unit.0 (end_test asked to) (mach lim (Some unit.0) kept) q refl row
+            (ap (λ n. slice_get (code_of p.blocks) (picked supply.among tree n)) same ∙ apart) in
             let no : nat_le lim pos ≡ false = lt-leb lim pos lt in
             let no_end = step_in p x start {s = IfEnd asked} {b = Goto to ∷ []} {b' = Goto to ∷ []} {m = mach lim (Some unit.0) kept}
             {m' = mach lim (Some unit.0) kept} {q = q}
@@ -82,14 +84,14 @@ module _ (p : Piece) (x : List ℕ) (start : ℕ) (supply : Supply) (units block
             (Refilled-none lim q)
             (then_in p x start (suc (tree_length above tree) + 2) peeked
             (then_in p x start (tree_length above tree + 2) tests (then_in p x start 2 no_end goes (omega arith)) (omega arith)) (omega arith))
-            (omega (arith, fits))
+            (omega (arith, has_room))
         by false e =
             let ne : unit.0 ≢ eof = λ z. true≢false (sym (eq-eqb unit.0 eof z) ∙ e) in
-            let goal : Leads unit.0 (picked tree unit.0) = leads unit.0 (small unit.0 unit.1) ne in
-            let next = target unit.0 (picked tree unit.0) goal in
-            let tests = tree_run p x start tree above unit.0 next.0 (mach lim (Some unit.0) kept) q refl row next.1 in
-            reads unit.0 (picked tree unit.0) next.0 lim (Some unit.0) kept q buffer (suc (tree_length above tree)) unit.1 lt unchecked
-            goal next.1 b (Refilled-none lim q) (then_in p x start (suc (tree_length above tree)) peeked tests (omega arith)) (omega (arith, fits))
+            let goal : Leads unit.0 (picked supply.among tree unit.0) = leads unit.0 (small unit.0 unit.1) ne in
+            let next = target unit.0 (picked supply.among tree unit.0) goal in
+            let tests = tree_run p x start supply.among fits tree above unit.0 next.0 (mach lim (Some unit.0) kept) q refl row next.1 in
+            reads unit.0 (picked supply.among tree unit.0) next.0 lim (Some unit.0) kept q buffer (suc (tree_length above tree)) unit.1 lt unchecked
+            goal next.1 b (Refilled-none lim q) (then_in p x start (suc (tree_length above tree)) peeked tests (omega arith)) (omega (arith, has_room))
 
     -- ---- at the limit
 
@@ -104,7 +106,7 @@ module _ (p : Piece) (x : List ℕ) (start : ℕ) (supply : Supply) (units block
           (ap (λ t. peek (if t then slice_get x pos else (if nat_eq pos lim then p.eof else None)) (tree_code above tree) (mach lim u kept) q) no
           ∙ ap (λ t. peek (if t then p.eof else None) (tree_code above tree) (mach lim u kept) q) yes
           ∙ ap (λ o. peek o (tree_code above tree) (mach lim u kept) q) at_limit) (omega arith) in
-          let tests = tree_run p x start tree above eof (end_test asked to) (mach lim (Some eof) kept) q refl row apart in
+          let tests = tree_run p x start supply.among fits tree above eof (end_test asked to) (mach lim (Some eof) kept) q refl row apart in
           let past : nat_le lim pos ≡ true = le-leb lim pos (omega arith) in
           let ends_here = step_in p x start {s = IfEnd asked} {b = Goto to ∷ []} {b' = next} {m = mach lim (Some eof) kept} {m' = mach lim (Some eof) kept}
           {q = q}
@@ -154,7 +156,7 @@ module _ (p : Piece) (x : List ℕ) (start : ℕ) (supply : Supply) (units block
       pub fixed_run : lim ≡ length x → Ends asked → (next : List Stmt) → slice_get (code_of p.blocks) asked ≡ Some next
           → Going (Peek ∷ tree_code above tree) lim u kept q
       fixed_run whole ends next is =
-          ended asked next lim (Some eof) kept q (here ∙ whole) ends is (widen p x start (statement_count p.blocks) (asked_run next is) (omega (arith, fits)))
+          ended asked next lim (Some eof) kept q (here ∙ whole) ends is (widen p x start (statement_count p.blocks) (asked_run next is) (omega (arith, has_room)))
 
       -- a refill is tried, in a piece that stores no states
       pub tried_run : (reader : Reader) (end : ℕ) → Ends end → (next : List Stmt) → slice_get (code_of p.blocks) end ≡ Some next → stores_states p ≡ false
@@ -162,7 +164,7 @@ module _ (p : Piece) (x : List ℕ) (start : ℕ) (supply : Supply) (units block
       tried_run reader end ends next is_end stateless asks =
           let own = lengths_of-block asking (code_of p.blocks) asked (Try block ∷ Goto end ∷ []) asks refl in
           let led = asked_run (Try block ∷ Goto end ∷ []) asks in
-          try_run end ends next is_end 0 kept (omega (arith, own, fits)) (widen p x start (suc (tree_length above tree) + 1 + 0) led (omega arith))
+          try_run end ends next is_end 0 kept (omega (arith, own, has_room)) (widen p x start (suc (tree_length above tree) + 1 + 0) led (omega arith))
           (λ fs q' e legal. absurd (true≢false (sym legal.1 ∙ stateless))) q refl b.legal
 
       -- the state is stored before
@@ -172,7 +174,7 @@ module _ (p : Piece) (x : List ℕ) (start : ℕ) (supply : Supply) (units block
         room : suc (tree_length above tree) + 5 ≤ statement_count p.blocks
         room =
             let own = lengths_of-block asking (code_of p.blocks) asked (State (number reader) ∷ Try block ∷ Goto end ∷ []) asks refl in
-            omega (arith, own, fits)
+            omega (arith, own, has_room)
 
         to_try : LeadsIn p x start (suc (tree_length above tree) + 1 + 1) (Peek ∷ tree_code above tree) (mach lim u kept) q (Try block ∷ Goto end ∷ [])
             (mach lim (Some eof) (Some (number reader))) q

@@ -21,6 +21,7 @@ use Rattle.lx_layout.specs.Halting.{Halting, is_entered}
 use Rattle.lx_layout.specs.Supplies.{Supply, entry}
 use Rattle.lx_layout.specs.Told.{told_at}
 use Rattle.lx_layout.proofs.BlockLayouts.CodesInBlocks.{length-block}
+use Rattle.lx_layout.proofs.BlockLayouts.Questions.{FitsTable}
 use Rattle.lx_layout.proofs.Rules.RuleEnds.{ending_run}
 use Rattle.lx_layout.proofs.Runs.PartialRuns.{EndsIn, widen_end}
 use Rattle.lx_layout.proofs.Runs.OperationSteps.{machine_at, raised-shift}
@@ -39,11 +40,12 @@ told_from endings cond auto (Some rule) st (unit ∷ w) = told_behind endings co
 module _ (p : Piece) (x : List ℕ) (start : ℕ) (supply : Supply) (halting : Halting) (endings : ℕ → Ending) (greatest : ℕ) (auto : Auto) (place saved rules : ℕ → ℕ) (fall : ℕ)
     (end_rule : Option ℕ) (begin : ℕ) (serves : Serves supply halting endings greatest auto (code_of p.blocks) place saved rules fall end_rule)
     (enters : ServesEntry supply halting endings greatest auto (code_of p.blocks) place saved rules fall end_rule begin) (formed : IsAuto auto)
-    (at_limit : p.eof ≡ supply.eof) (stored : AreStoredBy supply.stored p) (enough : supply.eof ≡ None → AreEnough auto supply.check)
+    (at_limit : p.eof ≡ supply.eof) (stored : AreStoredBy supply.stored p) (fits : FitsTable supply.among p)
+    (enough : supply.eof ≡ None → AreEnough auto supply.check)
     (first : Option ℕ) (cond : List ℕ) where
   abbrev TellsHere : (lim : ℕ) → Standing → List Stmt → (u kept : Option ℕ) → Bank → List Answer → (told : Ended) → Type 0
   TellsHere lim st code u kept k q told =
-      Tells p x start supply halting endings greatest auto place saved rules fall end_rule begin serves enters formed at_limit stored enough first cond lim st code None u kept k q told
+      Tells p x start supply halting endings greatest auto place saved rules fall end_rule begin serves enters formed at_limit stored fits enough first cond lim st code None u kept k q told
 
   -- from the entry on, where a rule stands at the end
   module _ (rule block : ℕ) (code : List Stmt) (own : slice_get (code_of p.blocks) block ≡ Some code) (some : IsSome supply.eof)
@@ -56,8 +58,8 @@ module _ (p : Piece) (x : List ℕ) (start : ℕ) (supply : Supply) (halting : H
         → TellsHere lim (start_with start bank) code u kept bank q (told_from endings cond auto (Some rule) (start_with start bank) w)
     entry_claim zero w lim u kept q buffer few h stands = absurd (omega (arith, few))
     entry_claim (suc g) w lim u kept q buffer few h stands =
-        reader_claim p x start supply halting endings greatest auto place saved rules fall end_rule serves formed at_limit stored
-        (next_code p x start supply halting endings greatest auto place saved rules fall end_rule begin serves enters formed at_limit stored enough first cond) first cond
+        reader_claim p x start supply halting endings greatest auto place saved rules fall end_rule serves formed at_limit stored fits
+        (next_code p x start supply halting endings greatest auto place saved rules fall end_rule begin serves enters formed at_limit stored fits enough first cond) first cond
         (start_with start bank) None bank h entry 0 block (λ end. slice_get (code_of p.blocks) end ≡ Some (ending_code endings rule []))
         (λ to is. (ending_code endings rule [], is)) code own w lim u kept q buffer stands (λ none. absurd (no_none none))
         (told_from endings cond auto (Some rule) (start_with start bank) w) reader.1 (λ none. absurd (no_none none))
@@ -72,7 +74,7 @@ module _ (p : Piece) (x : List ℕ) (start : ℕ) (supply : Supply) (halting : H
         (told_at endings cond rule start [])) same (widen_end p x start (3 * statement_count p.blocks) over (omega (arith, n)))))
         (λ lim' u' kept' q' buffer' fewer stands'. entry_claim g w lim' u' kept' q' buffer' (omega (arith, few, fewer)) h stands')
         (λ unit w' edge e code' lim' u' kept' q' buffer' fewer on is stands'.
-        state_claim p x start supply halting endings greatest auto place saved rules fall end_rule begin serves enters formed at_limit stored enough first cond
+        state_claim p x start supply halting endings greatest auto place saved rules fall end_rule begin serves enters formed at_limit stored fits enough first cond
         (suc (length w' + length q')) w' lim' u' kept' q' buffer' _ _ _ code' (omega arith)
         (entered-edge end_rule auto 0 unit edge h.state on) (HoldsAs-edge halting auto (start_with start bank) None bank unit edge formed serves.onward h on) stands' is)
 
@@ -84,10 +86,10 @@ module _ (p : Piece) (x : List ℕ) (start : ℕ) (supply : Supply) (halting : H
         → (code : List Stmt) × (slice_get (code_of p.blocks) block ≡ Some code)
         × TellsHere lim (start_with start bank) code None None bank q (told_from endings cond auto given (start_with start bank) w)
     entered None block is some same =
-        let code = next_code p x start supply halting endings greatest auto place saved rules fall end_rule begin serves enters formed at_limit stored enough first cond 0 h.state in (
+        let code = next_code p x start supply halting endings greatest auto place saved rules fall end_rule begin serves enters formed at_limit stored fits enough first cond 0 h.state in (
           code.0,
           ap (λ n. slice_get (code_of p.blocks) n) same ∙ code.1,
-          state_claim p x start supply halting endings greatest auto place saved rules fall end_rule begin serves enters formed at_limit stored enough first cond
+          state_claim p x start supply halting endings greatest auto place saved rules fall end_rule begin serves enters formed at_limit stored fits enough first cond
               (suc (length w + length q)) w lim None None q buffer (start_with start bank) None bank code.0 (omega arith)
               (ap (λ o. is_entered o auto 0) is) h stands code.1,
         )
@@ -95,14 +97,14 @@ module _ (p : Piece) (x : List ℕ) (start : ℕ) (supply : Supply) (halting : H
         let code = reader_code supply halting endings greatest auto (code_of p.blocks) place saved rules fall entry 0 block
         (λ unit to. IsTarget supply halting endings greatest auto (code_of p.blocks) place saved rules fall 0 (state_of auto.states 0)
         (edge_on (state_of auto.states 0).edges unit) to) (λ end. slice_get (code_of p.blocks) end ≡ Some (ending_code endings rule []))
-        (λ unit to is. target p x start supply halting endings greatest auto place saved rules fall end_rule begin serves enters formed at_limit stored enough first cond 0
+        (λ unit to is. target p x start supply halting endings greatest auto place saved rules fall end_rule begin serves enters formed at_limit stored fits enough first cond 0
         (edge_on (state_of auto.states 0).edges unit) to h.state is) reader.1 in
         (code.0, code.1, entry_claim rule block code.0 code.1 (some refl) reader bank (suc (length q)) w lim None None q buffer (omega arith) h stands)
 
 -- the run of a match under a schedule
 pub match_run : (p : Piece) (x : List ℕ) (start : ℕ) (supply : Supply) (halting : Halting) (endings : ℕ → Ending) (greatest : ℕ) (auto : Auto) (place saved rules : ℕ → ℕ)
     (fall : ℕ) (end_rule : Option ℕ) (block : ℕ) → Serves supply halting endings greatest auto (code_of p.blocks) place saved rules fall end_rule → IsAuto auto
-    → p.eof ≡ supply.eof → AreStoredBy supply.stored p → (supply.eof ≡ None → AreEnough auto supply.check) → (cond : List ℕ)
+    → p.eof ≡ supply.eof → AreStoredBy supply.stored p → FitsTable supply.among p → (supply.eof ≡ None → AreEnough auto supply.check) → (cond : List ℕ)
     → (IsSome end_rule → IsSome supply.eof)
     → ServesEntry supply halting endings greatest auto (code_of p.blocks) place saved rules fall end_rule block → entry_block p.conds cond ≡ Some block
     → start ≤ length x → AllByRecursion (λ unit. unit ≤ greatest) (drop start x) → (registers : ℕ → Option ℕ) (histories : ℕ → List (Option ℕ))
@@ -111,7 +113,7 @@ pub match_run : (p : Piece) (x : List ℕ) (start : ℕ) (supply : Supply) (halt
     (told_from endings cond auto end_rule (start_with start (bank_from registers histories)) (drop start x))
     (run_with p x start registers histories cond schedule)
 unfolding run_with
-match_run p x start supply halting endings greatest auto place saved rules fall end_rule block serves formed at_limit stored enough cond some entered_by is_entry le small registers histories schedule legal whole =
+match_run p x start supply halting endings greatest auto place saved rules fall end_rule block serves formed at_limit stored fits enough cond some entered_by is_entry le small registers histories schedule legal whole =
     let q : List Answer = schedule.answers in
     let k : Bank = bank_from registers histories in
     let m : Machine = machine_with registers histories start schedule.first cond in
@@ -133,7 +135,7 @@ match_run p x start supply halting endings greatest auto place saved rules fall 
       whole = whole;
       ready = λ none unchecked. suffices-start auto supply.check (schedule.first - start) (enough none) unchecked;
     } in
-    let claim = entered p x start supply halting endings greatest auto place saved rules fall end_rule block serves entered_by formed at_limit stored enough (registers 0) cond
+    let claim = entered p x start supply halting endings greatest auto place saved rules fall end_rule block serves entered_by formed at_limit stored fits enough (registers 0) cond
     (bank_from registers histories) holds (drop start x) schedule.first schedule.answers (record { base = 0; limit = schedule.first; closed = false })
     stands end_rule block refl some entered_by in
     let go = claim.2.holds 0 fuel (omega arith) (omega arith) in

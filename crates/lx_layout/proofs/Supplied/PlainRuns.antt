@@ -26,6 +26,7 @@ use Rattle.lx_layout.specs.Supplied.{Serves}
 use Rattle.lx_layout.specs.Supplies.{Supply}
 use Rattle.lx_layout.specs.TestTrees.{inner_blocks, picked, tree_code}
 use Rattle.lx_layout.proofs.BlockLayouts.CodesInBlocks.{length-block, length-with_row}
+use Rattle.lx_layout.proofs.BlockLayouts.Questions.{FitsTable}
 use Rattle.lx_layout.proofs.BlockLayouts.TreeCodes.{inner_blocks-read, tree_length}
 use Rattle.lx_layout.proofs.Runs.PartialRuns.{EndsIn, LeadsIn, end_in, loop_count-mono, stays_in, step_in, then_in, widen}
 use Rattle.lx_layout.proofs.Runs.OperationSteps.{machine_at, raised-shift, tree_run}
@@ -36,7 +37,7 @@ use Rattle.lx_layout.proofs.Supplied.StateRuns.{Has, Target, all, at, edge_run, 
 
 module _ (p : Piece) (x : List ℕ) (start : ℕ) (supply : Supply) (halting : Halting) (endings : ℕ → Ending) (greatest : ℕ) (auto : Auto)
     (place saved rules : ℕ → ℕ) (fall : ℕ) (serves : Serves supply halting endings greatest auto (code_of p.blocks) place saved rules fall None)
-    (no_end : supply.eof ≡ None) (unchecked : (number : ℕ) → supply.check number ≡ 0) (formed : IsAuto auto) (first : Option ℕ) (cond : List ℕ) where
+    (no_end : supply.eof ≡ None) (unchecked : (number : ℕ) → supply.check number ≡ 0) (fits : FitsTable supply.among p) (formed : IsAuto auto) (first : Option ℕ) (cond : List ℕ) where
   abbrev Reads : ℕ → Type 0
   Reads number = ReadsPlain supply halting endings greatest auto (code_of p.blocks) place saved rules fall number (state_of auto.states number)
 
@@ -88,7 +89,7 @@ module _ (p : Piece) (x : List ℕ) (start : ℕ) (supply : Supply) (halting : H
             (widen p x start size h (omega (arith, n)));
       }
   enter s pos v code held u k q (by_tests tree next is stands leads) has known ev lt within =
-      let to = target_code p x start supply halting endings greatest auto place saved rules fall None serves formed first cond (length x) None s (edge_on (state_of auto.states s).edges v) (picked tree v) known (leads v within) in
+      let to = target_code p x start supply halting endings greatest auto place saved rules fall None serves formed first cond (length x) None s (edge_on (state_of auto.states s).edges v) (picked supply.among tree v) known (leads v within) in
       let rest : List Stmt = tree_code next tree in
       let c : code ≡ Peek ∷ tree_code next tree = cc in
       let n = length-with_row (code_of p.blocks) (place s) (Peek ∷ tree_code next tree) next (inner_blocks next tree) is stands
@@ -97,9 +98,9 @@ module _ (p : Piece) (x : List ℕ) (start : ℕ) (supply : Supply) (halting : H
       let h = step_in p x start {s = Peek} {b = tree_code next tree} {m = mach pos held u k} {m' = mach pos held (Some v) k} {q = q}
       (ap (λ t. peek (if t then slice_get x pos else (if nat_eq pos (length x) then p.eof else None)) rest (mach pos held u k) q) t
       ∙ ap (λ o. peek o rest (mach pos held u k) q) ev) (omega arith) in
-      let g = tree_run p x start tree next v to.0 (mach pos held (Some v) k) q refl stands to.1 in
+      let g = tree_run p x start supply.among fits tree next v to.0 (mach pos held (Some v) k) q refl stands to.1 in
       record {
-        block = picked tree v;
+        block = picked supply.among tree v;
         to = to.0;
         target = leads v within;
         has = to.1;
@@ -174,13 +175,13 @@ some_size : (l n steps : ℕ) → steps < l * (2 * n) + 2 * n → 0 < n
 some_size l zero steps few = let none : l * (2 * 0) ≡ 0 = omega arith in absurd (omega (arith, few, none))
 some_size l (suc n) steps few = omega arith
 
-fits : (l d n : ℕ) → l ≡ d → 0 < n → l * (2 * n) + 2 * n < 2 * (d + 2) * n
-fits l d n e h = let g : l * (2 * n) ≡ d * (2 * n) = ap (λ k. k * (2 * n)) e in omega (arith, g)
+fits_within : (l d n : ℕ) → l ≡ d → 0 < n → l * (2 * n) + 2 * n < 2 * (d + 2) * n
+fits_within l d n e h = let g : l * (2 * n) ≡ d * (2 * n) = ap (λ k. k * (2 * n)) e in omega (arith, g)
 
 -- the run of a match is the automaton's
 pub plain_found : (p : Piece) (x : List ℕ) (start : ℕ) (supply : Supply) (halting : Halting) (endings : ℕ → Ending) (greatest : ℕ) (auto : Auto)
     (place saved rules : ℕ → ℕ) (fall : ℕ) → Serves supply halting endings greatest auto (code_of p.blocks) place saved rules fall None
-    → supply.eof ≡ None → ((number : ℕ) → supply.check number ≡ 0) → IsAuto auto → (cond : List ℕ)
+    → supply.eof ≡ None → ((number : ℕ) → supply.check number ≡ 0) → FitsTable supply.among p → IsAuto auto → (cond : List ℕ)
     → entry_block p.conds cond ≡ Some (place 0)
     → start ≤ length x → AllByRecursion (λ unit. unit ≤ greatest) (drop start x)
     → (registers : ℕ → Option ℕ) (histories : ℕ → List (Option ℕ)) → Stops auto (start_with start (bank_from registers histories)) (drop start x)
@@ -189,7 +190,7 @@ pub plain_found : (p : Piece) (x : List ℕ) (start : ℕ) (supply : Supply) (ha
     ≡ told_found endings cond (found_behind auto (last_standing auto (start_with start (bank_from registers histories)) (drop start x)))
     (last_standing auto (start_with start (bank_from registers histories)) (drop start x)).offset
 unfolding run_with
-plain_found p x start supply halting endings greatest auto place saved rules fall serves no_end unchecked formed cond entry le within registers histories stops schedule whole =
+plain_found p x start supply halting endings greatest auto place saved rules fall serves no_end unchecked fits formed cond entry le within registers histories stops schedule whole =
     let w : List ℕ = drop start x in
     let size : ℕ = statement_count p.blocks in
     let q : List Answer = schedule.answers in
@@ -197,9 +198,9 @@ plain_found p x start supply halting endings greatest auto place saved rules fal
     let st : Standing = start_with start (bank_from registers histories) in
     let m : Machine = machine_with registers histories start schedule.first cond in
     let fuel : ℕ = loop_count p start (schedule.first + units_of_answers schedule.answers) in
-    let code = state_code p x start supply halting endings greatest auto place saved rules fall serves no_end unchecked formed (registers 0) cond 0 formed.start in
+    let code = state_code p x start supply halting endings greatest auto place saved rules fall serves no_end unchecked fits formed (registers 0) cond 0 formed.start in
     let found : code_at p.blocks (entry_block p.conds cond) ≡ Some code.0 = ap (λ o. code_at p.blocks o) entry ∙ code.1 in
-    let h = simulation p x start supply halting endings greatest auto place saved rules fall serves no_end unchecked formed
+    let h = simulation p x start supply halting endings greatest auto place saved rules fall serves no_end unchecked fits formed
     (registers 0) cond w st code.0 None None k q code.1
     (record {
       state = formed.start;
@@ -212,7 +213,7 @@ plain_found p x start supply halting endings greatest auto place saved rules fal
     let lw : length w ≡ length x - start = length-drop start x in
     let mono : loop_count p start (length x) ≤ fuel = loop_count-mono p x start (length x) (schedule.first + units_of_answers schedule.answers)
     (omega arith) in
-    let prod : length w * (2 * size) + 2 * size < loop_count p start (length x) = fits (length w) (length x - start) size lw n in
+    let prod : length w * (2 * size) + 2 * size < loop_count p start (length x) = fits_within (length w) (length x - start) size lw n in
     let f : ℕ = fuel - suc h.steps in
     let go = h.ends.by f fuel 0 (omega (arith, h.few, prod, mono)) (omega (arith, h.few, prod)) in
     let em : m ≡ machine_at start start (length x) None 0 None (registers 0) k cond [] =

@@ -26,7 +26,7 @@ module _ (supply : Supply) (halting : Halting) (endings : ℕ → Ending) (great
   -- without a test one block is right on all units, and the state's block is that one, or jumps to it
   pub data ReadsPlain (number : ℕ) (given : State) : Type 0 where
     by_tests : (tree : TestTree ℕ) (next : ℕ) → Has (place number) (Peek ∷ tree_code next tree) → StandsFrom blocks next (inner_blocks next tree)
-        → ((unit : ℕ) → unit ≤ greatest → Leads number given unit (picked tree unit)) → ReadsPlain number given
+        → ((unit : ℕ) → unit ≤ greatest → Leads number given unit (picked supply.among tree unit)) → ReadsPlain number given
     by_jump : (block : ℕ) → Has (place number) (Goto block ∷ []) → ((unit : ℕ) → unit ≤ greatest → Leads number given unit block)
         → ReadsPlain number given
     itself : ((unit : ℕ) → unit ≤ greatest → Leads number given unit (place number)) → ReadsPlain number given

@@ -27,6 +27,7 @@ use Rattle.lx_layout.specs.Supplied.{IsTarget, Serves, ServesReader, at_end, by_
 use Rattle.lx_layout.specs.Supplies.{Reader, Supply, need_code}
 use Rattle.lx_layout.specs.TestTrees.{tree_code}
 use Rattle.lx_layout.proofs.BlockLayouts.CodesInBlocks.{length-block}
+use Rattle.lx_layout.proofs.BlockLayouts.Questions.{FitsTable}
 use Rattle.lx_layout.proofs.Runs.PartialRuns.{EndsIn, LeadsIn, end_in, then_in}
 use Rattle.lx_layout.proofs.Runs.OperationSteps.{machine_at}
 use Rattle.lx_layout.proofs.Runs.UnitsLeft.{left_unit}
@@ -48,7 +49,7 @@ TellsOrEnds p supply units told told_here = EndsBefore p supply units told_here 
 
 module _ (p : Piece) (x : List ℕ) (start : ℕ) (supply : Supply) (halting : Halting) (endings : ℕ → Ending) (greatest : ℕ) (auto : Auto) (place saved rules : ℕ → ℕ) (fall : ℕ)
     (end_rule : Option ℕ) (served : Serves supply halting endings greatest auto (code_of p.blocks) place saved rules fall end_rule) (formed : IsAuto auto)
-    (at_limit : p.eof ≡ supply.eof) (stored : AreStoredBy supply.stored p)
+    (at_limit : p.eof ≡ supply.eof) (stored : AreStoredBy supply.stored p) (fits : FitsTable supply.among p)
     (next_code : (state : ℕ) → state < length auto.states → (code : List Stmt) × (slice_get (code_of p.blocks) (place state) ≡ Some code))
     (first : Option ℕ) (cond : List ℕ) where
   abbrev pub mach : (pos lim : ℕ) → Option Left → (u kept : Option ℕ) → Bank → Machine
@@ -125,7 +126,7 @@ module _ (p : Piece) (x : List ℕ) (start : ℕ) (supply : Supply) (halting : H
           (room : supply.eof ≡ None → st.offset + units ≤ lim') (is_next : slice_get (code_of p.blocks) to ≡ Some next)
           (fills : Buffered (length x) start (stores_states p) lim' q' buffer') (r : Refilled lim q lim' q')
           (led : LeadsIn p x start steps code (mach st.offset lim held u kept k) q next (mach st.offset lim' held u' kept' k) q')
-          (fits : steps + lengths_of passing (code_of p.blocks) ≤ statement_count p.blocks) (w' : List ℕ) (split : w ≡ unit ∷ w')
+          (room_left : steps + lengths_of passing (code_of p.blocks) ≤ statement_count p.blocks) (w' : List ℕ) (split : w ≡ unit ∷ w')
           (is_unit : slice_get x st.offset ≡ Some unit) where
         rest_on : unit ∷ w' ≡ drop st.offset x
         rest_on = sym split ∙ stands.rest
@@ -137,7 +138,7 @@ module _ (p : Piece) (x : List ℕ) (start : ℕ) (supply : Supply) (halting : H
             let g = stop_run p x start supply halting endings greatest auto place saved rules fall end_rule served formed first cond lim' kept' st.state to st.offset next st.left
             held u' k st.bank q' h.state leads is_next h.agrees h.found h.same h.fresh in
             ends_so p x start {Told = λ e. TellsOrEnds p supply (length x) told e}
-            (end_in p x start (4 * statement_count p.blocks) led g (omega (arith, fits))) refl low (inr (sym tells))
+            (end_in p x start (4 * statement_count p.blocks) led g (omega (arith, room_left))) refl low (inr (sym tells))
 
         -- it follows an edge
         edge_claim : (edge : Edge) → edge_on (state_of auto.states st.state).edges unit ≡ Some edge
@@ -172,7 +173,7 @@ module _ (p : Piece) (x : List ℕ) (start : ℕ) (supply : Supply) (halting : H
                   suffices-edge auto supply.check st.state unit lim' st.offset edge on unchecked (enough none lim' r.grows (room none));
             } in
             let claim = behind code'.0 lim' u' kept' q' buffer' r.fewer on code'.1 after in
-            carry p x start (then_in p x start (statement_count p.blocks) led' passes (omega (arith, fits, long))) (omega arith) refl low
+            carry p x start (then_in p x start (statement_count p.blocks) led' passes (omega (arith, room_left, long))) (omega arith) refl low
             here_some (omega (arith, from, r.grows, lt)) r.same
             (subst (λ t. Claims lim' (behind_edge (state_of auto.states st.state) st edge) code'.0 (left_behind halting auto st.state st.offset edge held) u' kept'
             (bank_behind auto st.state st.offset edge k) q' t) (sym tells) claim)
@@ -190,7 +191,7 @@ module _ (p : Piece) (x : List ℕ) (start : ℕ) (supply : Supply) (halting : H
           → ((unit : ℕ) (w' : List ℕ) (edge : Edge) → w ≡ unit ∷ w' → ClaimsBehind st held k q unit w' edge)
           → Claims lim st code held u kept k q told
       reader_claim serves there tells last_so anew behind =
-          by (reader_run p x start supply halting endings greatest auto place saved rules fall at_limit stored reader units block Leads Ends target final st.offset
+          by (reader_run p x start supply halting endings greatest auto place saved rules fall at_limit stored fits reader units block Leads Ends target final st.offset
           (marker_of start held) (number_of saved held) first k cond small lim u kept q buffer stands.fills stands.below there stands.whole code at_block serves)
         where
           -- what is left
@@ -217,7 +218,7 @@ module _ (p : Piece) (x : List ℕ) (start : ℕ) (supply : Supply) (halting : H
 
           by : ReaderRun p x start supply units Leads Ends st.offset (marker_of start held) (number_of saved held) first k cond code lim u kept q
               → Claims lim st code held u kept k q told
-          by (reads unit to next lim' u' kept' q' buffer' steps is lt room leads is_next fills r led fits) =
+          by (reads unit to next lim' u' kept' q' buffer' steps is lt room leads is_next fills r led room_left) =
               on (edge_on (state_of auto.states st.state).edges unit) refl leads (tells unit parts.0 parts.1)
             where
               parts : (w' : List ℕ) × (w ≡ unit ∷ w')
@@ -229,9 +230,9 @@ module _ (p : Piece) (x : List ℕ) (start : ℕ) (supply : Supply) (halting : H
                   (or_here st (by_edge (state_of auto.states st.state) st o) (λ next. last_standing auto next parts.0))
                   → Claims lim st code held u kept k q told
               on None e leads tells_so =
-                  stop_claim unit to next lim' u' kept' q' buffer' steps lt room is_next fills r led fits parts.0 parts.1 is leads tells_so
+                  stop_claim unit to next lim' u' kept' q' buffer' steps lt room is_next fills r led room_left parts.0 parts.1 is leads tells_so
               on (Some edge) e leads tells_so =
-                  edge_claim unit to next lim' u' kept' q' buffer' steps lt room is_next fills r led fits parts.0 parts.1 is edge e leads tells_so
+                  edge_claim unit to next lim' u' kept' q' buffer' steps lt room is_next fills r led room_left parts.0 parts.1 is edge e leads tells_so
                   (behind unit parts.0 edge parts.1)
           by (ended to next lim' u' kept' q' whole ends is led) =
               let last = last_so to next lim' u' kept' q' (nothing w refl whole) ends is in

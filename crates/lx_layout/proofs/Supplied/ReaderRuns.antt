@@ -15,6 +15,7 @@ use Rattle.lx_layout.specs.RightInMode.{AreStoredBy}
 use Rattle.lx_layout.specs.Supplied.{ServesEnd, ServesReader, at_end, by_jump, by_tests, itself}
 use Rattle.lx_layout.specs.Supplies.{Reader, Supply, need_code}
 use Rattle.lx_layout.specs.TestTrees.{tree_code}
+use Rattle.lx_layout.proofs.BlockLayouts.Questions.{FitsTable}
 use Rattle.lx_layout.proofs.Supplied.CountedReaders.{itself_run, jump_run, tests_run}
 use Rattle.lx_layout.proofs.Supplied.EndReaders.{fixed_run, stored_run, tried_run, unit_run}
 use Rattle.lx_layout.proofs.Supplied.Readers.{ReaderRun, stores_states}
@@ -36,7 +37,7 @@ reader_code supply halting endings greatest auto blocks place saved rules fall r
     (at_end eof is tree next to asked own row leads apart leads_eof last) = (Peek ∷ tree_code next tree, own)
 
 module _ (p : Piece) (x : List ℕ) (start : ℕ) (supply : Supply) (halting : Halting) (endings : ℕ → Ending) (greatest : ℕ) (auto : Auto) (place saved rules : ℕ → ℕ) (fall : ℕ)
-    (at_limit : p.eof ≡ supply.eof) (stored : AreStoredBy supply.stored p)
+    (at_limit : p.eof ≡ supply.eof) (stored : AreStoredBy supply.stored p) (fits : FitsTable supply.among p)
     (reader : Reader) (units block : ℕ) (Leads : (unit to : ℕ) → Type 0) (Ends : ℕ → Type 0)
     (target : (unit to : ℕ) → Leads unit to → (next : List Stmt) × (slice_get (code_of p.blocks) to ≡ Some next))
     (final : (to : ℕ) → Ends to → (next : List Stmt) × (slice_get (code_of p.blocks) to ≡ Some next))
@@ -54,12 +55,12 @@ module _ (p : Piece) (x : List ℕ) (start : ℕ) (supply : Supply) (halting : H
     reader_run code stands (by_jump none to is leads) =
         let same : need_code supply.stored reader units (Goto to ∷ []) ≡ code = cc in
         subst (λ c. Going c lim u kept q) same
-        (jump_run p x start supply units block Leads Ends pos mk ac first k cond target (λ unit. unit ≤ greatest) small none reader stored to is leads lim u
+        (jump_run p x start supply units block Leads Ends pos mk ac first k cond target (λ unit. unit ≤ greatest) small none reader stored fits to is leads lim u
         kept q buffer b le (there none))
     reader_run code stands (by_tests none tree above is row leads) =
         let same : need_code supply.stored reader units (Peek ∷ tree_code above tree) ≡ code = cc in
         subst (λ c. Going c lim u kept q) same
-        (tests_run p x start supply units block Leads Ends pos mk ac first k cond target (λ unit. unit ≤ greatest) small none reader stored tree above is row
+        (tests_run p x start supply units block Leads Ends pos mk ac first k cond target (λ unit. unit ≤ greatest) small none reader stored fits tree above is row
         leads lim u kept q buffer b le (there none))
     reader_run code stands (at_end eof is tree above to asked own row leads apart leads_eof ends) =
         let same : Peek ∷ tree_code above tree ≡ code = cc in
@@ -73,20 +74,20 @@ module _ (p : Piece) (x : List ℕ) (start : ℕ) (supply : Supply) (halting : H
             → Going (Peek ∷ tree_code above tree) lim u kept q
         by here false fixed s are ends =
             let next = final asked ends in
-            fixed_run p x start supply units block Leads Ends pos mk ac first k cond eof is (at_limit ∙ is) tree above asked to own row apart lim u kept q
+            fixed_run p x start supply units block Leads Ends pos mk ac first k cond eof is (at_limit ∙ is) fits tree above asked to own row apart lim u kept q
             buffer b here (whole some fixed) ends next.0 next.1
         by here true tries None are ends =
             let next = final ends.0 ends.1 in
-            tried_run p x start supply units block Leads Ends pos mk ac first k cond eof is (at_limit ∙ is) tree above asked to own row apart lim u kept q
+            tried_run p x start supply units block Leads Ends pos mk ac first k cond eof is (at_limit ∙ is) fits tree above asked to own row apart lim u kept q
             buffer b here reader ends.0 ends.1 next.0 next.1 are ends.2
         by here true tries (Some number) are ends =
             let next = final ends.0 ends.1 in
-            stored_run p x start supply units block Leads Ends pos mk ac first k cond eof is (at_limit ∙ is) tree above asked to own row apart lim u kept q
+            stored_run p x start supply units block Leads Ends pos mk ac first k cond eof is (at_limit ∙ is) fits tree above asked to own row apart lim u kept q
             buffer b here reader number are ends.0 ends.1 next.0 next.1 ends.2 ends.3
 
         split : (t : Bool) → nat_lt pos lim ≡ t → Going (Peek ∷ tree_code above tree) lim u kept q
         split true t =
-            unit_run p x start supply units block Leads Ends pos mk ac first k cond eof is (at_limit ∙ is) tree above asked to own row apart target
+            unit_run p x start supply units block Leads Ends pos mk ac first k cond eof is (at_limit ∙ is) fits tree above asked to own row apart target
             (λ unit. unit ≤ greatest) small leads leads_eof lim u kept q buffer b (ltb-true pos lim t)
         split false t =
             let past : lim ≤ pos = ltb-false pos lim t in

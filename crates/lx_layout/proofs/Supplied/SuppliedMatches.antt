@@ -25,6 +25,7 @@ use Rattle.lx_layout.specs.Stops.{bank_from}
 use Rattle.lx_layout.specs.Supplied.{Serves, ServesEntry}
 use Rattle.lx_layout.specs.Supplies.{Supply}
 use Rattle.lx_layout.specs.Told.{put_back, slash_value, told_at, told_of, told_with}
+use Rattle.lx_layout.proofs.BlockLayouts.Questions.{FitsTable}
 use Rattle.lx_layout.proofs.Runs.Matches.{IsWord-units, outcome_told, stops_there}
 use Rattle.lx_layout.proofs.Supplied.MatchRuns.{match_run, told_from}
 use Rattle.lx_layout.proofs.Supplied.PlainRuns.{plain_found}
@@ -69,15 +70,15 @@ module _ (policy : Policy) (enc : Enc) (patterns : List Pattern) (auto : Auto) (
     lone_entry none (Some rule) e reader = absurd (nothing supply.eof none (some (subst (λ o. IsSome o) (sym e) refl)))
 
     -- where all units are there from the start
-    plain_right : IsSupplyOf Plain supply auto piece → IsRightInMode policy Plain cond enc patterns endings piece
-    plain_right of stream start schedule registers histories le units legal on empty answered =
+    plain_right : FitsTable supply.among piece → IsSupplyOf Plain supply auto piece → IsRightInMode policy Plain cond enc patterns endings piece
+    plain_right fits of stream start schedule registers histories le units legal on empty answered =
         let bank : Bank = bank_from registers histories in
         let lone = lone_entry of.0 (end_rule patterns) refl enters in
         let plain = subst (λ o. Serves supply halting endings (greatest_unit enc) auto (code_of piece.blocks) place saved rules fall o) lone.0 serves in
         let stops = stops_there policy enc patterns auto is endings stream start (bank_from registers histories) empty units on.0 on.1 on.2 in
         let no_end : (rule : ℕ) → IsEnd policy enc patterns stream start rule → ⊥ = λ rule end. let e = sym lone.0 ∙ end.1 in cc in
         let told = outcome_told policy enc patterns auto is endings stream start (bank_from registers histories) empty units ends.slashes ends.set no_end cond in
-        let ran = plain_found piece stream start supply halting endings (greatest_unit enc) auto place saved rules fall plain of.0 of.1 is.fits.formed cond
+        let ran = plain_found piece stream start supply halting endings (greatest_unit enc) auto place saved rules fall plain of.0 of.1 fits is.fits.formed cond
         (is_entry ∙ ap (λ n. Some n) lone.1) le (IsWord-units enc patterns (drop start stream) units) registers histories stops schedule (legal.whole of.2) in
         inr (told.0, told.1, ran ∙ told.2)
 
@@ -89,7 +90,7 @@ module _ (policy : Policy) (enc : Enc) (patterns : List Pattern) (auto : Auto) (
       mode_right : IsRightInMode policy mode cond enc patterns endings piece
       mode_right stream start schedule registers histories le units legal on empty answered =
           by (match_run piece stream start supply halting endings (greatest_unit enc) auto place saved rules fall (end_rule patterns) entry serves is.fits.formed
-          supplied.eof supplied.stored enough cond some enters is_entry le (IsWord-units enc patterns (drop start stream) units) registers histories schedule
+          supplied.eof supplied.stored supplied.among enough cond some enters is_entry le (IsWord-units enc patterns (drop start stream) units) registers histories schedule
           legal (whole (length stream) start schedule legal))
         where
           by : TellsOrEnds piece supply (length stream)
@@ -116,7 +117,7 @@ supplied_right policy mode enc patterns auto endings supply halting piece place 
   where
     by : (mode : Mode) → IsSupplied mode supply auto piece → IsRightInMode policy mode cond enc patterns endings piece
     by Plain supplied =
-        plain_right policy enc patterns auto is endings ends cond supply halting piece place saved rules fall entry serves enters some is_entry supplied.of_mode
+        plain_right policy enc patterns auto is endings ends cond supply halting piece place saved rules fall entry serves enters some is_entry supplied.among supplied.of_mode
     by Count supplied =
         mode_right policy enc patterns auto is endings ends cond supply halting piece place saved rules fall entry serves enters some is_entry Count supplied
         (λ none. supplied.of_mode.1) (λ units told none checked. checked)

@@ -21,6 +21,7 @@ use Rattle.lx_layout.specs.Supplied.{IsEnd, IsTarget, Serves, ServesEntry, Serve
 use Rattle.lx_layout.specs.Halting.{Halting, is_entered}
 use Rattle.lx_layout.specs.Supplies.{Supply, entry, state}
 use Rattle.lx_layout.proofs.BlockLayouts.CodesInBlocks.{length-block}
+use Rattle.lx_layout.proofs.BlockLayouts.Questions.{FitsTable}
 use Rattle.lx_layout.proofs.Runs.PartialRuns.{EndsIn, end_in, step_in, widen_end}
 use Rattle.lx_layout.proofs.Supplied.Claims.{ends_so}
 use Rattle.lx_layout.proofs.Supplied.EnteredStates.{behind_entry, entered-edge}
@@ -61,7 +62,8 @@ suffices-start auto check units enough unchecked = by (graph_of auto 0) refl
 module _ (p : Piece) (x : List ℕ) (start : ℕ) (supply : Supply) (halting : Halting) (endings : ℕ → Ending) (greatest : ℕ) (auto : Auto) (place saved rules : ℕ → ℕ) (fall : ℕ)
     (end_rule : Option ℕ) (begin : ℕ) (serves : Serves supply halting endings greatest auto (code_of p.blocks) place saved rules fall end_rule)
     (enters : ServesEntry supply halting endings greatest auto (code_of p.blocks) place saved rules fall end_rule begin) (formed : IsAuto auto)
-    (at_limit : p.eof ≡ supply.eof) (stored : AreStoredBy supply.stored p) (enough : supply.eof ≡ None → AreEnough auto supply.check)
+    (at_limit : p.eof ≡ supply.eof) (stored : AreStoredBy supply.stored p) (fits : FitsTable supply.among p)
+    (enough : supply.eof ≡ None → AreEnough auto supply.check)
     (first : Option ℕ) (cond : List ℕ) where
   pub target : (number : ℕ) (o : Option Edge) (to : ℕ) → number < length auto.states
       → IsTarget supply halting endings greatest auto (code_of p.blocks) place saved rules fall number (state_of auto.states number) o to
@@ -102,14 +104,14 @@ module _ (p : Piece) (x : List ℕ) (start : ℕ) (supply : Supply) (halting : H
           (code.0, ap (λ n. slice_get (code_of p.blocks) (place n)) behind.zeroth ∙ ap (λ n. slice_get (code_of p.blocks) n) (apart.0 behind.never) ∙ code.1)
 
   abbrev pub at : (pos lim : ℕ) → Option Left → (u kept : Option ℕ) → Bank → Machine
-  at pos lim held u kept k = mach p x start supply halting endings greatest auto place saved rules fall end_rule serves formed at_limit stored next_code first cond pos lim held u kept k
+  at pos lim held u kept k = mach p x start supply halting endings greatest auto place saved rules fall end_rule serves formed at_limit stored fits next_code first cond pos lim held u kept k
 
   abbrev pub StandsOn : List ℕ → (lim : ℕ) → Standing → List Answer → Buffer → Type 0
   StandsOn w lim st q buffer = StandsAt p x start supply greatest auto w lim st q buffer
 
   abbrev pub Tells : (lim : ℕ) → Standing → List Stmt → Option Left → (u kept : Option ℕ) → Bank → List Answer → (told : Ended) → Type 0
   Tells lim st code held u kept k q told =
-      Claims p x start supply halting endings greatest auto place saved rules fall end_rule serves formed at_limit stored next_code first cond lim st code held u kept k q told
+      Claims p x start supply halting endings greatest auto place saved rules fall end_rule serves formed at_limit stored fits next_code first cond lim st code held u kept k q told
 
   abbrev pub told_on : Standing → List ℕ → Ended
   told_on st w = told_behind endings cond auto (last_standing auto st w)
@@ -161,7 +163,7 @@ module _ (p : Piece) (x : List ℕ) (start : ℕ) (supply : Supply) (halting : H
           lone_claim st held k h w block lim u kept q buffer code stands lone
           (subst (λ c. EndsIn p x start (4 * statement_count p.blocks) c (at st.offset lim held u kept k) q (told_behind endings cond auto st)) same over)
       by (reads some reader) later =
-          reader_claim p x start supply halting endings greatest auto place saved rules fall end_rule serves formed at_limit stored next_code first cond st held k h
+          reader_claim p x start supply halting endings greatest auto place saved rules fall end_rule serves formed at_limit stored fits next_code first cond st held k h
           (state st.state) (supply.check st.state) (place st.state)
           (IsEnd supply halting endings greatest auto (code_of p.blocks) place saved rules fall st.state (state_of auto.states st.state).accept)
           (λ to is. target st.state None to h.state is) code own w lim u kept q buffer stands suffices (told_on st w) reader there

@@ -135,16 +135,16 @@ module _ (greatest apart place : ℕ) where
 
 -- ---- a tree of the tests of a reader
 
-pub picked-own : (eof greatest : ℕ) (edges : List Edge) (tree : TestTree (Option ℕ)) → PicksAs (reader_split (Some eof) greatest edges) tree
-    → picked tree eof ≡ Some (length (transition_classes edges))
-picked-own eof greatest edges tree picks =
+pub picked-own : (sets : (set unit : ℕ) → Bool) (eof greatest : ℕ) (edges : List Edge) (tree : TestTree (Option ℕ))
+    → PicksAs sets (reader_split (Some eof) greatest edges) tree → picked sets tree eof ≡ Some (length (transition_classes edges))
+picked-own sets eof greatest edges tree picks =
     picks eof
     ∙ apart_own greatest eof (length (transition_classes edges)) 0 (edge_split greatest edges).tests (edge_split greatest edges).last
 
-pub picked-other : (eof greatest : ℕ) (edges : List Edge) (tree : TestTree (Option ℕ)) (unit : ℕ)
-    → PicksAs (reader_split (Some eof) greatest edges) tree → AreApartFrom 0 edges → unit ≤ greatest → unit ≢ eof
-    → picked tree unit ≡ edge_class (transition_classes edges) (edge_on edges unit)
-picked-other eof greatest edges tree unit picks apart le other =
+pub picked-other : (sets : (set unit : ℕ) → Bool) (eof greatest : ℕ) (edges : List Edge) (tree : TestTree (Option ℕ)) (unit : ℕ)
+    → PicksAs sets (reader_split (Some eof) greatest edges) tree → AreApartFrom 0 edges → unit ≤ greatest → unit ≢ eof
+    → picked sets tree unit ≡ edge_class (transition_classes edges) (edge_on edges unit)
+picked-other sets eof greatest edges tree unit picks apart le other =
     picks unit
     ∙ apart_others greatest eof (length (transition_classes edges)) 0 (edge_split greatest edges).tests (edge_split greatest edges).last unit
     (omega arith) le other

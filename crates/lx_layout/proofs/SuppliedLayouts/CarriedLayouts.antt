@@ -23,6 +23,7 @@ use Rattle.lx_layout.specs.Halting.{AreHalting, Halting}
 use Rattle.lx_layout.specs.Supplies.{Reader, Supply}
 use Rattle.lx_layout.specs.TestTrees.{IsTreeOf, PicksAs, TestTree, TestsWithin}
 use Rattle.lx_layout.specs.TransitionClasses.{Split}
+use Rattle.lx_layout.proofs.BlockLayouts.Questions.{FitsTable}
 use Rattle.lx_layout.proofs.Carrying.SuppliedCarried.{supplied_carries_at}
 use Rattle.lx_layout.proofs.SuppliedLayouts.ApartPlaces.{entered_place, places_apart}
 use Rattle.lx_layout.proofs.SuppliedLayouts.EachBlock.{EachFrom}
@@ -87,16 +88,16 @@ module _ (piece : Piece) (endings : ℕ → Ending) (end_rule : Option ℕ) (gre
       by false none = absurd (true≢false (none-contained is_peek there.0 Peek none there.2))
 
   -- with the places of the layout
-  pub layout_carries_at : piece.eof ≡ supply.eof → ((unit : ℕ) → IsUnitOf piece unit → unit ≤ greatest)
+  pub layout_carries_at : piece.eof ≡ supply.eof → FitsTable supply.among piece → ((unit : ℕ) → IsUnitOf piece unit → unit ≤ greatest)
       → AllByRecursion (λ code. AllByRecursion (NamesItsOwn auto) code) (supplied_layout supply halting endings end_rule trees auto begin)
       → (carries : Carries piece (entry_of supply halting end_rule trees auto begin) endings auto)
       × (carries.place ≡ place_of supply halting end_rule trees auto begin)
-  layout_carries_at eof units own =
-      let picks = each_reader IsTreeOf PicksAs (λ split tree is. is.picks) supply.eof greatest trees auto are in
+  layout_carries_at eof fits units own =
+      let picks = each_reader IsTreeOf (PicksAs supply.among) (λ split tree is. is.picks supply.among) supply.eof greatest trees auto are in
       supplied_carries_at supply halting endings greatest auto piece (place_of supply halting end_rule trees auto begin) (number_in halting auto.states)
       (rule_block supply halting end_rule trees auto begin) (fall_block supply halting end_rule trees auto begin) end_rule first
       (layout_serves supply halting endings end_rule greatest trees auto begin (code_of piece.blocks) stands formed within picks marked agreed)
-      (layout_entered supply halting endings end_rule greatest trees auto begin (code_of piece.blocks) stands formed within picks marked some) formed units
+      (layout_entered supply halting endings end_rule greatest trees auto begin (code_of piece.blocks) stands formed within picks marked some) formed fits units
       (λ s t. places_apart supply halting end_rule trees auto begin some s t) (λ block of peek. home block of peek)
       (λ statement made.
       let at = found made.0 statement made.1 made.2 in
@@ -104,7 +105,7 @@ module _ (piece : Piece) (endings : ℕ → Ending) (end_rule : Option ℕ) (gre
       all-contained (NamesItsOwn auto) there.0 statement
       (all-get (λ code. AllByRecursion (NamesItsOwn auto) code) codes at.0 there.0 own at.2) there.2)
 
-  pub layout_carries : piece.eof ≡ supply.eof → ((unit : ℕ) → IsUnitOf piece unit → unit ≤ greatest)
+  pub layout_carries : piece.eof ≡ supply.eof → FitsTable supply.among piece → ((unit : ℕ) → IsUnitOf piece unit → unit ≤ greatest)
       → AllByRecursion (λ code. AllByRecursion (NamesItsOwn auto) code) (supplied_layout supply halting endings end_rule trees auto begin)
       → Carries piece (entry_of supply halting end_rule trees auto begin) endings auto
-  layout_carries eof units own = (layout_carries_at eof units own).0
+  layout_carries eof fits units own = (layout_carries_at eof fits units own).0

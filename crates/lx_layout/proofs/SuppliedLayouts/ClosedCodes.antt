@@ -12,7 +12,7 @@ use Rattle.lx_auto.specs.declared.ops.Op.TheVariants.{Here, Null, Copy, MHere, M
 use Rattle.lx_ccode.specs.Statements.{is_ending}
 use Rattle.lx_ccode.specs.Validity.{ends_once}
 use Rattle.lx_ccode.specs.declared.piece.Stmt.{Stmt}
-use Rattle.lx_ccode.specs.declared.piece.Stmt.TheVariants.{Accept as SaveAccept, Back, Backup, Cond, Count, End, Goto, IfAccept, IfEnd, IfUnit, Need, Peek, Restore, Skip, State as Store, Try}
+use Rattle.lx_ccode.specs.declared.piece.Stmt.TheVariants.{Accept as SaveAccept, Back, Backup, Cond, Count, End, Goto, IfAccept, IfEnd, IfIs, IfSet, IfUnit, Need, Peek, Restore, Skip, State as Store, Try}
 use Rattle.lx_sequence.specs.ParallelCopies.{sequentialized}
 use Rattle.lx_layout.specs.Codes.{Choice, list_code, op_code, ops_code, save_code}
 use Rattle.lx_layout.specs.Endings.{Ending, action_code, back_code, cond_code, ending_code, ends_code, groups_code, is_slash, last_code, slash_held, tag_code, tags_code, unless}
@@ -20,6 +20,7 @@ use Rattle.lx_layout.specs.Fallback.{edge_code, fallback_code}
 use Rattle.lx_layout.specs.Halting.{Halting, saves_on}
 use Rattle.lx_layout.specs.SuppliedLayout.{JumpsTo}
 use Rattle.lx_layout.specs.Supplies.{Reader, Supply, need_code, store_code}
+use Rattle.lx_layout.proofs.BlockLayouts.Questions.{any_question, targets-switch}
 use Rattle.lx_layout.proofs.SuppliedLayouts.EachBlock.{HoldsOfSorts}
 
 module _ (B : ℕ → Type 0) where
@@ -133,7 +134,10 @@ module _ (B : ℕ → Type 0) where
       (λ accept. Unit {0}) (λ rule. Unit {0}) supply halting endings auto
   sorts_fit supply halting endings auto = record {
     jumps = λ block to at. goto_fits block to;
-    tests = λ greatest block code any to h at. more (IfUnit greatest block) code refl (to, tt) (h at);
+    tests = λ question block code any to h. any_question (λ statement. (at : ℕ) → Fits (statement ∷ code)) block
+        (λ greatest at. more (IfUnit greatest block) code refl (to, tt) (h at)) (λ unit at. more (IfIs unit block) code refl (to, tt) (h at))
+        (λ set at. more (IfSet set block) code refl (to, tt) (h at)) question;
+    switches = λ cases last any to also at. record { ends = refl; jumps = (targets-switch B cases last to also, tt) };
     unchecked = tt;
     checks = λ reader at units block asked own to. need_fits supply.stored reader (suc units) (Goto block ∷ []) (goto_fits block to);
     reads = λ reader at units code asked own h. need_fits supply.stored reader units (Peek ∷ code) (more Peek code refl tt (h at));

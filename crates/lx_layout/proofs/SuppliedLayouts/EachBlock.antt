@@ -1,5 +1,5 @@
 -- What holds of the blocks of a layout with a supply of units, if it holds of the code of each sort.
-use Rattle.std.specs.Prelude.{◌≡◌, ℕ, zero, suc, ◌+◌, ◌<◌, ◌≤◌, Bool, true, false, List, [], ◌∷◌, ◌++◌, length, Option, Some, None, IsSome, refl}
+use Rattle.std.specs.Prelude.{◌≡◌, ℕ, zero, suc, ◌+◌, ◌<◌, ◌≤◌, Bool, true, false, List, [], ◌∷◌, ◌++◌, length, map, Option, Some, None, IsSome, refl}
 use Rattle.std.proofs.Common.{sym, subst, arith}
 use Rattle.std.specs.List.{AllByRecursion}
 use Rattle.lx_auto.specs.declared.automaton.Accept.{Accept}
@@ -7,7 +7,7 @@ use Rattle.lx_auto.specs.declared.automaton.Auto.{Auto}
 use Rattle.lx_auto.specs.declared.automaton.Edge.{Edge}
 use Rattle.lx_auto.specs.declared.automaton.State.{State}
 use Rattle.lx_ccode.specs.declared.piece.Stmt.{Stmt}
-use Rattle.lx_ccode.specs.declared.piece.Stmt.TheVariants.{Goto, IfUnit, Peek}
+use Rattle.lx_ccode.specs.declared.piece.Stmt.TheVariants.{Goto, Peek, Switch}
 use Rattle.lx_layout.specs.Codes.{Choice, accept_code, restore_code}
 use Rattle.lx_layout.specs.Endings.{Ending, ending_code}
 use Rattle.lx_layout.specs.Fallback.{edge_code, fallback_code}
@@ -15,7 +15,7 @@ use Rattle.lx_layout.specs.Halting.{Halting}
 use Rattle.lx_layout.specs.SuppliedLayout.{at_end_blocks, at_end_size, blocks_at_end, check_blocks, read_blocks, reader_blocks, reader_size, refill_blocks, refill_size, size_at_end}
 use Rattle.lx_layout.specs.Supplies.{Reader, Supply, back_code, end_test, need_code, try_code}
 use Rattle.lx_layout.proofs.Validity.EachElement.{each-append}
-use Rattle.lx_layout.specs.TestTrees.{EachTest, TestTree, fork, inner_blocks, inner_size, leaf, test, tree_code}
+use Rattle.lx_layout.specs.TestTrees.{Asked, EachTest, Question, TestTree, asks, by_cases, by_question, fork, inner_blocks, inner_size, leaf, switch, switch_cases, test, tree_code}
 
 -- of codes that stand in blocks from a number on, with the number of each
 abbrev pub EachFrom : (P : ℕ → List Stmt → Type 0) → (from : ℕ) → List (List Stmt) → Type 0
@@ -40,13 +40,16 @@ module _ (P : ℕ → List Stmt → Type 0) where
 
 -- ---- what it has to hold of
 
--- Jumps go to blocks of some sort, tests are of units of some sort, and what reads stands in blocks of its own. Edges and accepts are of
+-- Jumps go to blocks of some sort, tests ask something of some sort, and what reads stands in blocks of its own. Edges and accepts are of
 -- some sort, and so is the rule that stands at the end of the input.
-module _ (P : ℕ → List Stmt → Type 0) (B G : ℕ → Type 0) (R : Reader → ℕ → Type 0) (C : ℕ → Type 0) (E : State → Edge → Type 0) (A : Accept → Type 0) (D : ℕ → Type 0)
+module _ (P : ℕ → List Stmt → Type 0) (B : ℕ → Type 0) (G : Asked → Type 0) (R : Reader → ℕ → Type 0) (C : ℕ → Type 0) (E : State → Edge → Type 0) (A : Accept → Type 0) (D : ℕ → Type 0)
     (supply : Supply) (halting : Halting) (endings : ℕ → Ending) (auto : Auto) where
   pub record HoldsOfSorts : Type 0 where
     pub jumps : (block : ℕ) → B block → Anywhere P (Goto block ∷ [])
-    pub tests : (greatest block : ℕ) (code : List Stmt) → G greatest → B block → Anywhere P code → Anywhere P (IfUnit greatest block ∷ code)
+    pub tests : (question : Question) (block : ℕ) (code : List Stmt) → G (by_question question) → B block → Anywhere P code
+        → Anywhere P (asks question block ∷ code)
+    pub switches : (cases : List (List ℕ × ℕ)) (last : ℕ) → G (by_cases (map (λ case. case.0) cases)) → AllByRecursion (λ case. B case.1) cases → B last
+        → Anywhere P (Switch (switch_cases cases) last ∷ [])
     -- a reader may check for no units
     pub unchecked : C 0
     pub checks : (reader : Reader) (at units block : ℕ) → C (suc units) → R reader at → B block
@@ -75,16 +78,18 @@ module _ (P : ℕ → List Stmt → Type 0) (B G : ℕ → Type 0) (R : Reader �
 
     each-tree_code : (next : ℕ) (tree : TestTree ℕ) → EachTest G B tree → Inner next tree → Anywhere P (tree_code next tree)
     each-tree_code next (leaf block) h inner = holds.jumps block h
-    each-tree_code next (test greatest block high) h inner =
-        holds.tests greatest block (tree_code next high) h.0 h.1 (each-tree_code next high h.2 inner)
-    each-tree_code next (fork greatest low high) h inner =
-        holds.tests greatest next (tree_code (suc next + inner_size low) high) h.0 (inner next (omega arith) (omega arith))
+    each-tree_code next (switch cases last) h inner = holds.switches cases last h.0 h.1 h.2
+    each-tree_code next (test question block high) h inner =
+        holds.tests question block (tree_code next high) h.0 h.1 (each-tree_code next high h.2 inner)
+    each-tree_code next (fork question low high) h inner =
+        holds.tests question next (tree_code (suc next + inner_size low) high) h.0 (inner next (omega arith) (omega arith))
         (each-tree_code (suc next + inner_size low) high h.2 (λ block lt le. inner block (omega (arith, lt)) (omega (arith, le))))
 
     each-inner_blocks : (next : ℕ) (tree : TestTree ℕ) → EachTest G B tree → Inner next tree → AllByRecursion (Anywhere P) (inner_blocks next tree)
     each-inner_blocks next (leaf block) h inner = tt
-    each-inner_blocks next (test greatest block high) h inner = each-inner_blocks next high h.2 inner
-    each-inner_blocks next (fork greatest low high) h inner = (
+    each-inner_blocks next (switch cases last) h inner = tt
+    each-inner_blocks next (test question block high) h inner = each-inner_blocks next high h.2 inner
+    each-inner_blocks next (fork question low high) h inner = (
       each-tree_code (suc next) low h.1 (λ block lt le. inner block (omega (arith, lt)) (omega (arith, le))),
       each-append (Anywhere P) (inner_blocks (suc next) low) (inner_blocks (suc next + inner_size low) high)
           (each-inner_blocks (suc next) low h.1 (λ block lt le. inner block (omega (arith, lt)) (omega (arith, le))))
@@ -113,8 +118,9 @@ module _ (P : ℕ → List Stmt → Type 0) (B G : ℕ → Type 0) (R : Reader �
             → ((block : ℕ) → block < from + reader_size eof units tree → from ≤ block → B block)
             → EachFrom P from (reader_blocks supply.stored reader eof units from tree)
         by None (leaf block) h within = check units block asked h
-        by None (test greatest block high) h within = read units (test greatest block high) asked h within
-        by None (fork greatest low high) h within = read units (fork greatest low high) asked h within
+        by None (test question block high) h within = read units (test question block high) asked h within
+        by None (fork question low high) h within = read units (fork question low high) asked h within
+        by None (switch cases last) h within = read units (switch cases last) asked h within
         by (Some eof) tree h within = read 0 tree holds.unchecked h within
 
     -- where a unit stands at the end, blocks are of the sort to which it leads

@@ -16,8 +16,9 @@ use Rattle.lx_layout.specs.Halting.{Halting, halted_accept, is_entered}
 use Rattle.lx_layout.specs.Layout.{end_block, end_blocks, end_size, lone_blocks, own_block, own_blocks, own_size, saved_number}
 use Rattle.lx_layout.specs.SuppliedLayout.{at_end_blocks, at_end_size, blocks_by, class_blocks, classes_begin, kept, lone_number, own_end, reader_blocks, reader_size, size_in, sized, state_blocks, state_end, state_size, state_to, state_way, states_blocks, tests_of, tests_size, turn_begin, turn_of, turn_size, with_blocks}
 use Rattle.lx_layout.specs.Supplies.{Reader, Supply, state}
-use Rattle.lx_layout.specs.TestTrees.{EachTest, TestTree, fork, leaf, test}
+use Rattle.lx_layout.specs.TestTrees.{Asked, EachTest, TestTree, by_cases, fork, leaf, switch, test}
 use Rattle.lx_layout.specs.TransitionClasses.{class_place, classes_onto, edge_class, has_class, transition_classes}
+use Rattle.lx_layout.proofs.BlockLayouts.Questions.{each-cases_by, units-by}
 use Rattle.lx_layout.proofs.BlockLayouts.ClassLists.{class_found, has_class-on}
 use Rattle.lx_layout.proofs.SuppliedLayouts.EachBlock.{EachFrom, HoldsOfSorts, each-at_end, each-reader, each_from-append}
 use Rattle.lx_layout.proofs.SuppliedLayouts.Lengths.{length-class_blocks, length-state_blocks, length-tests_of, length-turn_of}
@@ -38,11 +39,16 @@ each-classes Q found (edge ∷ edges) h g = by (has_class found edge) (λ more a
     by false again = again (found ++ edge ∷ []) (each-append Q found (edge ∷ []) h (g.0, tt))
 
 -- of blocks in place of classes
-pub each-with_blocks : (G : ℕ → Type 0) (W : Option ℕ → Type 0) (B : ℕ → Type 0) (block : Option ℕ → ℕ) → ((class : Option ℕ) → W class → B (block class))
+pub each-with_blocks : (G : Asked → Type 0) (W : Option ℕ → Type 0) (B : ℕ → Type 0) (block : Option ℕ → ℕ) → ((class : Option ℕ) → W class → B (block class))
     → (tree : TestTree (Option ℕ)) → EachTest G W tree → EachTest G B (with_blocks block tree)
 each-with_blocks G W B block f (leaf class) h = f class h
-each-with_blocks G W B block f (test greatest class high) h = (h.0, f class h.1, each-with_blocks G W B block f high h.2)
-each-with_blocks G W B block f (fork greatest low high) h = (h.0, each-with_blocks G W B block f low h.1, each-with_blocks G W B block f high h.2)
+each-with_blocks G W B block f (switch cases last) h = (
+  subst (λ units. G (by_cases units)) (sym (units-by block cases)) h.0,
+  each-cases_by W B block f cases h.1,
+  f last h.2,
+)
+each-with_blocks G W B block f (test question class high) h = (h.0, f class h.1, each-with_blocks G W B block f high h.2)
+each-with_blocks G W B block f (fork question low high) h = (h.0, each-with_blocks G W B block f low h.1, each-with_blocks G W B block f high h.2)
 
 -- edges have a class
 pub some_class : (edge : Edge) (edges : List Edge) → 0 < length (transition_classes (edge ∷ edges))
@@ -67,7 +73,7 @@ pub record EndsRight (B : ℕ → Type 0) (supply : Supply) (halting : Halting) 
   pub falls : (s : ℕ) → s < length auto.states → (state_of auto.states s).accept ≡ None → halting.halts s ≡ true
       → (halting.falls s ≡ true) ⊎ ((block : ℕ) → B block)
 
-module _ (P : ℕ → List Stmt → Type 0) (B G : ℕ → Type 0) (R : Reader → ℕ → Type 0) (C : ℕ → Type 0) (E : State → Edge → Type 0) (A : Accept → Type 0) (D : ℕ → Type 0)
+module _ (P : ℕ → List Stmt → Type 0) (B : ℕ → Type 0) (G : Asked → Type 0) (R : Reader → ℕ → Type 0) (C : ℕ → Type 0) (E : State → Edge → Type 0) (A : Accept → Type 0) (D : ℕ → Type 0)
     (supply : Supply) (halting : Halting) (endings : ℕ → Ending) (auto : Auto) (holds : HoldsOfSorts P B G R C E A D supply halting endings auto)
     (end_rule : Option ℕ) (trees : Reader → TestTree (Option ℕ)) (begin n : ℕ) (range : (block : ℕ) → begin ≤ block → block < n → B block)
     (asked_of : (s : ℕ) → C (supply.check s)) where

@@ -13,11 +13,11 @@ use Rattle.lx_layout.specs.Endings.{Ending}
 use Rattle.lx_layout.specs.Halting.{AreHalting, Halting, at_end, bare, here, is_entered, lone}
 use Rattle.lx_layout.specs.SuppliedLayout.{EachReader, end_rule_block, end_rule_part, place_of, states_begin, supplied_layout}
 use Rattle.lx_layout.specs.Supplies.{Reader, Supply, entry, state}
-use Rattle.lx_layout.specs.TestTrees.{EachTest, HasEnd, HasWay, TestTree, TestsWithin}
+use Rattle.lx_layout.specs.TestTrees.{Asked, AsksAtMost, EachTest, HasEnd, HasWay, TestTree, TestsWithin, at_most, by_question}
 use Rattle.lx_layout.specs.TransitionClasses.{transition_classes}
 use Rattle.lx_layout.specs.UnitApart.{reader_split}
 use Rattle.lx_layout.proofs.BlockLayouts.FirstAccepts.{Chosen}
-use Rattle.lx_layout.proofs.BlockLayouts.SplitTrees.{each-tests}
+use Rattle.lx_layout.proofs.BlockLayouts.SplitTrees.{asked-at_most, each-tests}
 use Rattle.lx_layout.proofs.SuppliedLayouts.BareUnits.{bare_unit}
 use Rattle.lx_layout.proofs.SuppliedLayouts.EachBlock.{EachFrom, HoldsOfSorts}
 use Rattle.lx_layout.proofs.SuppliedLayouts.EachLayout.{CanEnd, EndsRight, IsWay}
@@ -76,16 +76,18 @@ module _ (B : ℕ → Type 0) (supply : Supply) (halting : Halting) (end_rule : 
 
   -- ---- where tests lead
 
-  module _ (G : ℕ → Type 0)
-      (units : (s unit : ℕ) → s < length auto.states → HasEnd (reader_split supply.eof greatest (state_of auto.states s).edges).tests unit → G unit)
+  module _ (G : Asked → Type 0)
+      (units : (s unit : ℕ) → s < length auto.states → HasEnd (reader_split supply.eof greatest (state_of auto.states s).edges).tests unit
+      → G (by_question (at_most unit)))
       (formed : IsAuto auto) (marked : IsMarked) where
     tree_leads : (s : ℕ) → s < length auto.states → (tree : TestTree (Option ℕ)) → TestsWithin (reader_split supply.eof greatest (state_of auto.states s).edges) tree
         → EachTest G (IsWay B halting s (end_places supply.eof + length (transition_classes (state_of auto.states s).edges))) tree
     tree_leads s lt tree within =
         let edges : List Edge = (state_of auto.states s).edges in
-        each-tests (HasEnd (reader_split supply.eof greatest edges).tests) G
+        each-tests (AsksAtMost (HasEnd (reader_split supply.eof greatest edges).tests)) G
         (HasWay (reader_split supply.eof greatest edges).tests (reader_split supply.eof greatest edges).last)
-        (IsWay B halting s (end_places supply.eof + length (transition_classes edges))) (λ unit has. units s unit lt has) (λ class has. way class has) tree within
+        (IsWay B halting s (end_places supply.eof + length (transition_classes edges)))
+        (asked-at_most (HasEnd (reader_split supply.eof greatest edges).tests) G (λ unit has. units s unit lt has)) (λ class has. way class has) tree within
       where
         way : (class : Option ℕ)
             → HasWay (reader_split supply.eof greatest (state_of auto.states s).edges).tests (reader_split supply.eof greatest (state_of auto.states s).edges).last class
@@ -108,7 +110,7 @@ module _ (B : ℕ → Type 0) (supply : Supply) (halting : Halting) (end_rule : 
 -- ---- the whole
 
 -- the property holds of the code of each sort, and jumps go to blocks of the layout
-module _ (P : ℕ → List Stmt → Type 0) (B G : ℕ → Type 0) (R : Reader → ℕ → Type 0) (C : ℕ → Type 0) (E : State → Edge → Type 0) (A : Accept → Type 0) (D : ℕ → Type 0)
+module _ (P : ℕ → List Stmt → Type 0) (B : ℕ → Type 0) (G : Asked → Type 0) (R : Reader → ℕ → Type 0) (C : ℕ → Type 0) (E : State → Edge → Type 0) (A : Accept → Type 0) (D : ℕ → Type 0)
     (supply : Supply) (halting : Halting) (endings : ℕ → Ending) (auto : Auto) (holds : HoldsOfSorts P B G R C E A D supply halting endings auto)
     (end_rule : Option ℕ) (greatest : ℕ) (trees : Reader → TestTree (Option ℕ)) (begin : ℕ)
     (range : (block : ℕ) → begin ≤ block → block < begin + length (supplied_layout supply halting endings end_rule trees auto begin) → B block)
@@ -116,7 +118,8 @@ module _ (P : ℕ → List Stmt → Type 0) (B G : ℕ → Type 0) (R : Reader �
   module _ (asked : (s : ℕ) → C (supply.check s))
       (accepts : AllByRecursion (λ (state : State). Chosen A state.accept) auto.states)
       (edges : AllByRecursion (λ (state : State). AllByRecursion (E state) state.edges) auto.states)
-      (units : (s unit : ℕ) → s < length auto.states → HasEnd (reader_split supply.eof greatest (state_of auto.states s).edges).tests unit → G unit)
+      (units : (s unit : ℕ) → s < length auto.states → HasEnd (reader_split supply.eof greatest (state_of auto.states s).edges).tests unit
+      → G (by_question (at_most unit)))
       (readers : (s : ℕ) → s < length auto.states → is_entered end_rule auto s ≡ true → ((state_of auto.states s).edges ≡ [] → ⊥)
       → R (state s) (begin_in supply halting end_rule trees auto 0 (states_begin supply halting end_rule trees auto begin) auto.states s))
       (entry_reads : (rule : ℕ) → end_rule ≡ Some rule → R entry begin) (ends_by : (rule : ℕ) → end_rule ≡ Some rule → D rule) where

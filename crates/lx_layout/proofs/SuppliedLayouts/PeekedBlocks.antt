@@ -5,14 +5,16 @@ use Rattle.std.specs.List.{list_any}
 use Rattle.lx_auto.specs.declared.automaton.Auto.{Auto}
 use Rattle.lx_ccode.specs.Traces.{is_peek}
 use Rattle.lx_ccode.specs.declared.piece.Stmt.{Stmt}
-use Rattle.lx_ccode.specs.declared.piece.Stmt.TheVariants.{Goto, Peek}
+use Rattle.lx_ccode.specs.declared.piece.Stmt.TheVariants.{Goto, Peek, Switch}
 use Rattle.lx_layout.specs.Codes.{accept_code}
 use Rattle.lx_layout.specs.Endings.{Ending, ending_code}
 use Rattle.lx_layout.specs.Fallback.{edge_code, fallback_code}
 use Rattle.lx_layout.specs.Halting.{Halting}
 use Rattle.lx_layout.specs.Supplies.{Reader, Supply, need_code, try_code}
+use Rattle.lx_layout.proofs.BlockLayouts.Questions.{any_question}
 use Rattle.lx_layout.proofs.SuppliedLayouts.CommonCodes.{is_common, none-accept, none-edge, none-ending, none-fallback}
 use Rattle.lx_layout.proofs.SuppliedLayouts.EachBlock.{HoldsOfSorts}
+use Rattle.lx_layout.specs.TestTrees.{switch_cases}
 
 -- the code reads a unit
 abbrev pub peeks : List Stmt → Bool
@@ -43,7 +45,8 @@ module _ (Home : ℕ → Type 0) where
       (λ rule. Unit {0}) supply halting endings auto
   peeks-sorts supply halting endings auto = record {
     jumps = λ block any at some. absurd (true≢false (sym some));
-    tests = λ greatest block code any also h at. h at;
+    tests = λ question block code any to h. any_question (λ statement. (at : ℕ) → ReadsAtHome at (statement ∷ code)) block (λ greatest. h) (λ unit. h) (λ set. h) question;
+    switches = λ cases last any to also at. never (Switch (switch_cases cases) last ∷ []) at refl;
     unchecked = tt;
     checks = λ reader at units block asked own any. never (need_code supply.stored reader (suc units) (Goto block ∷ [])) at
         (peeks-check supply.stored reader units block);

@@ -12,6 +12,7 @@ use Rattle.lx_layout.specs.Halting.{Halting}
 use Rattle.lx_layout.specs.SuppliedLayout.{EachReader, supplied_layout}
 use Rattle.lx_layout.specs.Supplies.{Reader, Supply, need_code}
 use Rattle.lx_layout.specs.TestTrees.{TestTree, TestsWithin}
+use Rattle.lx_layout.proofs.BlockLayouts.Questions.{any_question}
 use Rattle.lx_layout.proofs.SuppliedLayouts.CommonCodes.{is_common, none-accept, none-edge, none-ending, none-fallback}
 use Rattle.lx_layout.proofs.SuppliedLayouts.EachBlock.{HoldsOfSorts}
 use Rattle.lx_layout.proofs.SuppliedLayouts.HeldLayouts.{each_from-all, layout_any}
@@ -37,7 +38,8 @@ quiet_sorts : (supply : Supply) (halting : Halting) (endings : ℕ → Ending) (
     (λ accept. Unit {0}) (λ rule. Unit {0}) supply halting endings auto
 quiet_sorts supply halting endings auto fixed = record {
   jumps = λ block any at. (refl, refl);
-  tests = λ greatest block code any also h at. h at;
+  tests = λ question block code any to h. any_question (λ statement. (at : ℕ) → IsQuiet (statement ∷ code)) block (λ greatest. h) (λ unit. h) (λ set. h) question;
+  switches = λ cases last any to also at. (refl, refl);
   unchecked = refl;
   checks = λ reader at units block none own any. absurd (omega (arith, none));
   reads = λ reader at units code none own h. read_quiet supply.stored reader units code none (h at);

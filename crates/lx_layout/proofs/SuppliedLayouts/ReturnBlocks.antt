@@ -9,16 +9,18 @@ use Rattle.lx_ccode.specs.Validity.{AreOnce}
 use Rattle.lx_ccode.specs.declared.piece.CodeBlock.{CodeBlock}
 use Rattle.lx_ccode.specs.declared.piece.StateCase.{StateCase}
 use Rattle.lx_ccode.specs.declared.piece.Stmt.{Stmt}
-use Rattle.lx_ccode.specs.declared.piece.Stmt.TheVariants.{Goto, Peek, State as Store}
+use Rattle.lx_ccode.specs.declared.piece.Stmt.TheVariants.{Goto, Peek, State as Store, Switch}
 use Rattle.lx_layout.specs.Codes.{accept_code, restore_code}
 use Rattle.lx_layout.specs.Endings.{Ending, ending_code}
 use Rattle.lx_layout.specs.Fallback.{edge_code, fallback_code}
 use Rattle.lx_layout.specs.Halting.{Halting}
 use Rattle.lx_layout.specs.Supplies.{Reader, Supply, back_code, end_test, need_code, try_code}
+use Rattle.lx_layout.proofs.BlockLayouts.Questions.{any_question}
 use Rattle.lx_layout.proofs.Supplied.StoredStates.{IsAmong, among_onto, among_states, block_of-among}
 use Rattle.lx_layout.proofs.SuppliedLayouts.CommonCodes.{none-accept, none-edge, none-ending, none-fallback}
 use Rattle.lx_layout.proofs.SuppliedLayouts.EachBlock.{HoldsOfSorts}
 use Rattle.lx_layout.proofs.SuppliedLayouts.StoredNothing.{others_store}
+use Rattle.lx_layout.specs.TestTrees.{switch_cases}
 
 pub none_head : (t u : Bool) → (t || u) ≡ false → (t ≡ false) × (u ≡ false)
 none_head true u e = absurd (true≢false e)
@@ -57,7 +59,9 @@ module _ (B : ℕ → Type 0) where
       (λ rule. Unit {0}) supply halting endings auto
   comes-sorts supply halting endings auto = record {
     jumps = λ block to at. comes_any at (Goto block ∷ []) refl;
-    tests = λ greatest block code any to h at. (no_state at code, h at);
+    tests = λ question block code any to h. any_question (λ statement. (at : ℕ) → ComesBack at (statement ∷ code)) block (λ greatest at. (no_state at code, h at))
+        (λ unit at. (no_state at code, h at)) (λ set at. (no_state at code, h at)) question;
+    switches = λ cases last any to also at. comes_any at (Switch (switch_cases cases) last ∷ []) refl;
     unchecked = tt;
     checks = λ reader at units block asked own to. comes-need supply.stored reader (suc units) at (Goto block ∷ []) (comes_any at (Goto block ∷ []) refl);
     reads = λ reader at units code asked own h. comes-need supply.stored reader units at (Peek ∷ code) (no_state at code, h at);

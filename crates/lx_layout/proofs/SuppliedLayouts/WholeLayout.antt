@@ -18,7 +18,7 @@ use Rattle.lx_layout.specs.Halting.{Halting, any_falls, ended_accept, ended_acce
 use Rattle.lx_layout.specs.Layout.{choices_from, end_block, end_size, ending_blocks, has_rule, lone_place, lone_size, own_block, restore_blocks}
 use Rattle.lx_layout.specs.SuppliedLayout.{at_end_blocks, at_end_size, end_of, end_rule_block, end_rule_part, entry_part, entry_part_size, entry_tests_size, entry_way, fall_block, fallback_part, first_restore, kept, lone_number, own_end, place_by, place_of, reader_blocks, rule_block, size_in, sized, state_end, state_size, state_to, state_way, states_begin, states_part, supplied_layout, turn_begin, with_blocks}
 use Rattle.lx_layout.specs.Supplies.{Reader, Supply, entry, state}
-use Rattle.lx_layout.specs.TestTrees.{TestTree}
+use Rattle.lx_layout.specs.TestTrees.{Asked, TestTree}
 use Rattle.lx_layout.specs.TransitionClasses.{transition_classes}
 use Rattle.lx_layout.proofs.BlockLayouts.FirstAccepts.{Chosen, rule_place-below, rule_place-within}
 use Rattle.lx_layout.proofs.SuppliedLayouts.EachBlock.{EachFrom, HoldsOfSorts, each-at_end, each-reader, each_from-append}
@@ -94,7 +94,7 @@ module _ (supply : Supply) (halting : Halting) (end_rule : Option ℕ) (trees : 
       ≤ end_of supply halting end_rule trees auto (suc s) (from + state_size supply halting end_rule trees auto s given) states) e
       (begin_in-high (suc s) (from + state_size supply halting end_rule trees auto s given) states k (omega (arith, lt)))
 
-module _ (P : ℕ → List Stmt → Type 0) (B G : ℕ → Type 0) (R : Reader → ℕ → Type 0) (C : ℕ → Type 0) (E : State → Edge → Type 0) (A : Accept → Type 0) (D : ℕ → Type 0)
+module _ (P : ℕ → List Stmt → Type 0) (B : ℕ → Type 0) (G : Asked → Type 0) (R : Reader → ℕ → Type 0) (C : ℕ → Type 0) (E : State → Edge → Type 0) (A : Accept → Type 0) (D : ℕ → Type 0)
     (supply : Supply) (halting : Halting) (endings : ℕ → Ending) (auto : Auto) (holds : HoldsOfSorts P B G R C E A D supply halting endings auto)
     (end_rule : Option ℕ) (trees : Reader → TestTree (Option ℕ)) (begin n : ℕ) (range : (block : ℕ) → begin ≤ block → block < n → B block)
     (asked_of : (s : ℕ) → C (supply.check s))

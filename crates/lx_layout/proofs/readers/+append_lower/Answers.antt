@@ -4,7 +4,7 @@ use Rattle.lx_ccode.specs.declared.piece.CodeBlock.{CodeBlock}
 use Rattle.lx_ccode.specs.declared.piece.Stmt.{Stmt}
 use Rattle.lx_layout.specs.SuppliedLayout.{with_blocks}
 use Rattle.lx_layout.specs.Plans.{unlabelled}
-use Rattle.lx_layout.specs.TestTrees.{TestTree, fork, inner_blocks, inner_size, tree_code}
+use Rattle.lx_layout.specs.TestTrees.{TestTree, at_most, fork, inner_blocks, inner_size, tree_code}
 use Rattle.lx_layout.specs.Views.{seen_tree}
 use Rattle.lx_layout.proofs.BlockLayouts.TreeLoops.{seen_tree-fork}
 use Rattle.lx_layout.proofs.Laying.TreeWays.{lower-more}
@@ -30,6 +30,6 @@ returns-in_ok-block_behind-in-Fork t c =
     let more = lower-more way next last (seen_tree low) (seen_tree high) behind c.in-Fork.greatest inside front
     c.append_root.new.blocks.items c.append_lower-in-Fork.new.blocks.items code c.in_ok-inside-in-Fork.ensures refl root lower in
     let written : TestTree (Option ℕ) → List CodeBlock = λ tree. front ++ unlabelled (inner_blocks next (with_blocks way tree)) in
-    let whole = more ∙ ap (λ tree. written (fork c.in-Fork.greatest (seen_tree low) (seen_tree tree))) c.deref-in-Fork-4.ensures
+    let whole = more ∙ ap (λ tree. written (fork (at_most c.in-Fork.greatest) (seen_tree low) (seen_tree tree))) c.deref-in-Fork-4.ensures
     ∙ ap written (sym (seen_tree-fork c.in-Fork.greatest c.in-Fork.low c.in-Fork.high)) ∙ ap (λ tree. written (seen_tree tree)) (sym c.in-Fork.is) in
     subst (λ l. OnOk c.append_lower-in-Fork-2.result (c.append_lower-in-Fork-2.new.blocks.items ≡ l)) whole c.append_lower-in-Fork-2.ensures

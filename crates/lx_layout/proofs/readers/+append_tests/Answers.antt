@@ -1,7 +1,7 @@
 use Rattle.std.proofs.Common.{◌≡◌, ℕ, ◌++◌, ap, ap₂, subst, sym, ◌∙◌}
 use Rattle.std.specs.Result.{OnOk}
 use Rattle.lx_layout.specs.SuppliedLayout.{with_blocks}
-use Rattle.lx_layout.specs.TestTrees.{TestTree, fork, tree_code}
+use Rattle.lx_layout.specs.TestTrees.{TestTree, at_most, fork, tree_code}
 use Rattle.lx_layout.specs.Views.{seen_tree}
 use Rattle.lx_layout.specs.Ways.{way_of}
 use Rattle.lx_layout.proofs.BlockLayouts.TreeLoops.{seen_tree-fork}
@@ -17,7 +17,7 @@ returns-in_ok-block_behind-in-Fork t c =
     let more = tests-more way next c.in_ok-block_behind-in-Fork.field-0 low high c.in_ok-block_behind-in-Fork.ensures c.in-Fork.greatest
     c.args.stmts.now.items c.push.new.self.items c.in_ok-push-in-Fork.ensures.items in
     let written = λ (tree : TestTree ℕ). c.args.stmts.now.items ++ tree_code next tree in
-    let whole = more ∙ ap₂ (λ low high. written (with_blocks way (fork c.in-Fork.greatest (seen_tree low) (seen_tree high)))) c.deref-in-Fork.ensures c.deref-in-Fork-2.ensures
+    let whole = more ∙ ap₂ (λ low high. written (with_blocks way (fork (at_most c.in-Fork.greatest) (seen_tree low) (seen_tree high)))) c.deref-in-Fork.ensures c.deref-in-Fork-2.ensures
     ∙ ap (λ tree. written (with_blocks way tree)) (sym (seen_tree-fork c.in-Fork.greatest c.in-Fork.low c.in-Fork.high))
     ∙ ap (λ tree. written (with_blocks way (seen_tree tree))) (sym c.in-Fork.is) in
     subst (λ l. OnOk c.append_tests-in-Fork.result (c.append_tests-in-Fork.new.stmts.items ≡ l)) whole c.append_tests-in-Fork.ensures
