@@ -3,7 +3,6 @@ ghost use Rattle.std.specs.Prelude.{◌≡◌, ◌<◌, ◌^◌, ◌++◌, ◌�
 ghost use Rattle.lx_ccode.specs.Labels.{all_targets, answers_from, block_front, is_gone_to, marked, standing_labels, starts_by_label};
 ghost use Rattle.lx_ccode.specs.States.{states_from, states_in, try_first};
 ghost use Rattle.lx_ccode.specs.Statements.{all_statements, targets};
-ghost use Rattle.lx_ccode.specs.Validity.{IsValid};
 
 use crate::heads::is_three;
 use crate::numerals::append_number;
@@ -23,7 +22,6 @@ pub fn block_front(alloc: Global, number: u32) -> Result<Vec<u8>, Memory>
 /// For each block of a piece of format 3 whether its own label stands, which it does where something goes
 /// to it. In a piece of another format each label stands, and the answer is empty.
 pub(crate) fn standing_labels(alloc: Global, piece: &Piece) -> Result<Vec<bool>, Memory>
-    requires { IsValid piece.now }
     ensures { IfOk result (λ labels. labels.items ≡ standing_labels piece.now) }
 {
     if is_three(&piece.head) {
@@ -34,7 +32,6 @@ pub(crate) fn standing_labels(alloc: Global, piece: &Piece) -> Result<Vec<bool>,
 }
 
 fn labels_of_three(alloc: Global, piece: &Piece) -> Result<Vec<bool>, Memory>
-    requires { IsValid piece.now }
     ensures { IfOk result (λ labels. labels.items ≡ answers_from (is_gone_to piece.now) 0 (length piece.now.blocks)) }
 {
     let blocks = piece.blocks.as_slice();
