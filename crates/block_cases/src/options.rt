@@ -1,7 +1,7 @@
 //! The options of a case.
 
 use case_reports::CaseError;
-use lx_base::{EmptyPolicy, Enc, FileName, Job, Options, SurPolicy};
+use lx_base::{EmptyPolicy, Enc, FileName, Format, Job, Options, SurPolicy};
 use std::alloc::Global;
 
 /// The options that hold where a case names none.
@@ -11,6 +11,7 @@ fn usual_options(alloc: Global) -> Options {
             file: FileName::from_string(String::new(alloc)),
             to: None,
         },
+        format: Format::Two,
         lines: false,
         conds: false,
         states: false,

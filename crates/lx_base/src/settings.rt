@@ -67,6 +67,8 @@ pub enum Job {
 #[derive(Drop)]
 pub struct Options {
     pub job: Job,
+    /// The format of emitted text.
+    pub format: Format,
     /// Whether `#line` is written.
     pub lines: bool,
     /// Whether rules stand under conditions.

@@ -6,6 +6,7 @@ use Rattle.lx_base.specs.declared.settings.EmptyPolicy.TheVariants.{MatchEmpty}
 use Rattle.lx_base.specs.declared.settings.Enc.TheVariants.{Byte}
 use Rattle.lx_base.specs.declared.settings.Job.TheVariants.{Compile}
 use Rattle.lx_base.specs.declared.settings.Options.{Options}
+use Rattle.lx_base.specs.declared.settings.Format.TheVariants.{Two}
 use Rattle.lx_base.specs.declared.settings.SurPolicy.TheVariants.{Ignore}
 use Rattle.lx_files.specs.declared.files.HeldFile.{HeldFile}
 
@@ -35,6 +36,7 @@ source_files rules = record { name = source_name; bytes = source_text rules } âˆ
 abbrev pub source_options : Options
 source_options = record {
   job = Compile source_name None;
+  format = Two;
   lines = false;
   conds = false;
   states = false;

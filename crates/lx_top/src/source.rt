@@ -14,7 +14,7 @@ use crate::emitted::{MOST_BYTES, read_scanner};
 use crate::endings::Halt;
 use crate::summary::summary;
 use lx_base::{
-    EmptyPolicy, Enc, FileName, FileNames, Job, Memory, Options, SurPolicy, append_parts,
+    EmptyPolicy, Enc, FileName, FileNames, Format, Job, Memory, Options, SurPolicy, append_parts,
 };
 use lx_ccode::Piece;
 use lx_files::{Files, QuietFiles, QuietSink, Sink};
@@ -63,6 +63,7 @@ fn source_options(alloc: Global) -> Result<Options, Memory>
     let file = FileName::from_string(String::from_str(alloc, SOURCE_NAME)?);
     Ok(Options {
         job: Job::Compile { file, to: None },
+        format: Format::Two,
         lines: false,
         conds: false,
         states: false,

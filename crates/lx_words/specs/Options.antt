@@ -7,6 +7,7 @@ use Rattle.lx_base.specs.declared.settings.Job.{Job}
 use Rattle.lx_base.specs.declared.settings.Job.TheVariants.{Compile, Run, Source}
 use Rattle.lx_base.specs.declared.settings.Enc.{Enc}
 use Rattle.lx_base.specs.declared.settings.Enc.TheVariants.{Byte, Ucs2, Utf8, Utf16, Utf32}
+use Rattle.lx_base.specs.declared.settings.Format.TheVariants.{Two}
 use Rattle.lx_base.specs.declared.settings.SurPolicy.{SurPolicy}
 use Rattle.lx_base.specs.declared.settings.SurPolicy.TheVariants.{Ignore, Substitute, Fail}
 use Rattle.lx_base.specs.declared.settings.EmptyPolicy.{EmptyPolicy}
@@ -55,6 +56,7 @@ job_of line = job_by (number_of line (codes "x-source") 1 200) (value line (code
 unfoldable pub options_of : Line → Options
 options_of line = record {
   job = job_of line;
+  format = Two;
   lines = not (has_flag line (codes "no-debug-info"));
   conds = has_flag line (codes "conditions");
   states = has_flag line (codes "storable-state");

@@ -7,7 +7,7 @@ ghost use Rattle.lx_words.specs.Options as spec;
 use crate::line::{has_flag, has_value, value};
 use crate::numbers::number_within;
 use clap::ArgMatches;
-use lx_base::{EmptyPolicy, Enc, FileName, Job, Memory, Options, SurPolicy};
+use lx_base::{EmptyPolicy, Enc, FileName, Format, Job, Memory, Options, SurPolicy};
 use std::alloc::Global;
 
 /// How many units a window has, and how many a refill adds, where nothing else is asked for.
@@ -126,6 +126,7 @@ pub fn options_of(alloc: Global, line: &ArgMatches<'_>) -> Result<Options, Memor
     };
     Ok(Options {
         job: job_of(alloc, line)?,
+        format: Format::Two,
         lines: !has_flag(line, "no-debug-info"),
         conds: has_flag(line, "conditions"),
         states: has_flag(line, "storable-state"),

@@ -5,7 +5,7 @@ ghost use Rattle.lx_token.specs.Tokens.{tokens_of};
 
 use super::timing::micros_since;
 use lx_base::limits::SOURCE_LIMIT;
-use lx_base::{BlockKind, EmptyPolicy, Enc, FileName, Job, Memory, Options, Pos, SurPolicy};
+use lx_base::{BlockKind, EmptyPolicy, Enc, FileName, Format, Job, Memory, Options, Pos, SurPolicy};
 use lx_parse::parse;
 use lx_split::split;
 use lx_token::{TokenList, tokens};
@@ -46,6 +46,7 @@ fn options(alloc: Global) -> Options {
             n: 1,
             to: FileName::from_string(String::new(alloc)),
         },
+        format: Format::Two,
         lines: true,
         conds: true,
         states: true,

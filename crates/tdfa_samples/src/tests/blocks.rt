@@ -12,7 +12,7 @@ ghost use Rattle.lx_rules.specs.Within.{IsScannerWithin};
 ghost use Rattle.lx_token.specs.Tokens.{tokens_of};
 
 use lx_base::limits::SOURCE_LIMIT;
-use lx_base::{BlockKind, EmptyPolicy, Enc, FileName, Job, Options, Pos, Stop, SurPolicy};
+use lx_base::{BlockKind, EmptyPolicy, Enc, FileName, Format, Job, Options, Pos, Stop, SurPolicy};
 use lx_parse::{BlockTree, parse};
 use lx_rules::{Env, Resolved, resolve};
 use lx_token::{TokenList, tokens};
@@ -34,6 +34,7 @@ fn options(alloc: Global) -> Options
             n: 1,
             to: FileName::from_string(String::new(alloc)),
         },
+        format: Format::Two,
         lines: false,
         conds: false,
         states: false,
