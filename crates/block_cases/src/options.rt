@@ -44,6 +44,7 @@ fn set_option(options: &mut Options, word: &str) -> Result<(), CaseError> {
         "-P" => options.posix = true,
         "--captures" => options.captures = true,
         "--input=custom" => options.custom = true,
+        "--x-format=3" => options.format = Format::Three,
         _ => return set_choice(options, word),
     }
     Ok(())

@@ -7,6 +7,7 @@ pub mod ItemFits
 pub mod ItemRuns
 pub mod ItemSteps
 pub mod ItemVerdicts
+pub mod OfFormatThree
 pub mod OneItem
 pub mod OpenedBlocks
 pub mod Openings

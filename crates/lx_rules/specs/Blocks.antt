@@ -1,5 +1,5 @@
 -- What a block resolves to, and the checks behind its items.
-use Rattle.std.specs.Prelude.{◌≡◌, ℕ, ◌+◌, ◌≤◌, ◌⊎◌, Bool, true, false, List, [], ◌∷◌, ◌++◌, map, max, length, drop, nat_lt, ◌||◌, Option, Some, None, is_some, Ok, Err, not, codes, if◌then◌else◌}
+use Rattle.std.specs.Prelude.{◌≡◌, ℕ, ◌+◌, ◌≤◌, ◌⊎◌, Bool, true, false, List, [], ◌∷◌, ◌++◌, map, max, length, drop, nat_lt, ◌||◌, ◌&&◌, Option, Some, None, is_some, Ok, Err, not, codes, if◌then◌else◌}
 use Rattle.std.specs.List.{AllByRecursion, list_any, filter}
 use Rattle.std.specs.Option.{option_or}
 use Rattle.lx_base.specs.declared.limits.TheConstants.{NESTING_LIMIT, SIZE_LIMIT, SOURCE_LIMIT, TAG_LIMIT}
@@ -10,8 +10,11 @@ use Rattle.lx_base.specs.declared.faults.Fault.{Fault}
 use Rattle.lx_base.specs.declared.faults.Fault.TheVariants.{NoRules, EofPair, Condition, BadValue, TooManyParts, NoRulesToUse}
 use Rattle.lx_base.specs.declared.faults.Stop.{Stop}
 use Rattle.lx_base.specs.declared.faults.Stop.TheVariants as stop
+use Rattle.lx_base.specs.declared.settings.Format.{Format}
+use Rattle.lx_base.specs.declared.settings.Format.TheVariants.{Three}
 use Rattle.lx_base.specs.declared.settings.Options.{Options}
-use Rattle.lx_base.specs.Names.{Spellings, DoNotClash, IsTagName, name_primitives}
+use Rattle.lx_base.specs.Letters.{after_letters, begins_with, front_letters, is_digit}
+use Rattle.lx_base.specs.Names.{Spellings, DoNotClash, IsTagName, begins_table, label_prefix, name_primitives, name_table}
 use Rattle.lx_parse.specs.declared.items.Item.{Item}
 use Rattle.lx_regex.specs.Pattern.{Pattern, patterns_of}
 use Rattle.lx_regex.specs.declared.rules.Kind.{Kind}
@@ -153,23 +156,45 @@ abbrev pub scanners_fault : Pos → (eof : Option ℕ) → List RuleOf → (cond
 scanners_fault at eof rules [] = None
 scanners_fault at eof rules (cond ∷ conds) = option_or (scanner_fault at eof (rules_of cond rules)) (scanners_fault at eof rules conds)
 
--- no two spellings clash, and none is the name of an input primitive where the input is custom
-abbrev pub SpellingsDiffer : (custom : Bool) → Spellings → Type 0
-SpellingsDiffer custom names = DoNotClash names × (custom ≡ true → name_primitives names ≡ false)
+-- no two spellings clash; none is the name of an input primitive where the input is custom, and none of a variable that of the table of
+-- sets in text of format 3
+abbrev pub SpellingsDiffer : (custom : Bool) → (format : Format) → Spellings → Type 0
+SpellingsDiffer custom format names =
+    DoNotClash names × (custom ≡ true → name_primitives names ≡ false) × (format ≡ Three → name_table names ≡ false)
 
 -- a tag has a name that it may have beside the spellings; that of a slash has none
 abbrev pub MayBeNamed : Spellings → (has_slash : Bool) → Tag → Type 0
 MayBeNamed names false tag = IsTagName names tag.name
 MayBeNamed names true tag = (tag.name ≡ []) ⊎ IsTagName names tag.name
 
--- the spellings differ, and each tag has a name that it may have beside them
-abbrev pub NoClash : (custom : Bool) → Spellings → List RuleOf → Type 0
-NoClash custom names rules =
-    SpellingsDiffer custom names × AllByRecursion (λ (rule : RuleOf). AllByRecursion (MayBeNamed names (is_some rule.slash)) rule.meaning.tags) rules
+-- and in text of format 3 it is not called as the table of sets
+abbrev pub MayBeTag : Format → Spellings → (has_slash : Bool) → Tag → Type 0
+MayBeTag format names has_slash tag = MayBeNamed names has_slash tag × (format ≡ Three → begins_table tag.name ≡ false)
 
-abbrev pub ClashCheck : (custom : Bool) → Pos → Spellings → List RuleOf → Check
-ClashCheck custom at names rules fault =
-    (NoClash custom names rules × (fault ≡ None)) ⊎ ((NoClash custom names rules → ⊥) × (fault ≡ Some (BadValue at)))
+-- a label begins as the label of a block of some piece: by `yy`, a number and `_`
+abbrev pub begins_block_label : List ℕ → Bool
+begins_block_label label =
+    begins_with (codes "yy") label && (nat_lt 0 (length (front_letters is_digit (drop 2 label))) && begins_with (codes "_") (after_letters is_digit (drop 2 label)))
+
+-- the label of a condition begins so; the one condition without a name has none
+abbrev pub is_labeled_as_block : Spellings → (cond : List ℕ) → Bool
+is_labeled_as_block names [] = false
+is_labeled_as_block names (letter ∷ cond) = begins_block_label (label_prefix names ++ letter ∷ cond)
+
+-- in text of format 3 the label of no condition begins so
+abbrev pub LabelsDiffer : Format → Spellings → (conds : List (List ℕ)) → Type 0
+LabelsDiffer format names conds = format ≡ Three → list_any (is_labeled_as_block names) conds ≡ false
+
+-- the spellings differ, each tag has a name that it may have beside them, and so has each condition a label
+abbrev pub NoClash : (custom : Bool) → (format : Format) → Spellings → List RuleOf → Type 0
+NoClash custom format names rules =
+    SpellingsDiffer custom format names
+    × AllByRecursion (λ (rule : RuleOf). AllByRecursion (MayBeTag format names (is_some rule.slash)) rule.meaning.tags) rules
+    × LabelsDiffer format names (conditions_of rules)
+
+abbrev pub ClashCheck : (custom : Bool) → (format : Format) → Pos → Spellings → List RuleOf → Check
+ClashCheck custom format at names rules fault =
+    (NoClash custom format names rules × (fault ≡ None)) ⊎ ((NoClash custom format names rules → ⊥) × (fault ≡ Some (BadValue at)))
 
 -- the rules are not of `<*>` alone
 abbrev pub lonely_fault : Pos → List RuleOf → (conds : List (List ℕ)) → Option Fault
@@ -188,9 +213,9 @@ targets_fault [] conds = None
 targets_fault (rule ∷ rules) conds = option_or (target_fault rule.act.goes rule.target conds) (targets_fault rules conds)
 
 -- The checks behind the items of a block of scanners whose opener stands at this place: spellings, conditions, and each scanner.
-abbrev pub ScannerChecks : (custom : Bool) → Pos → State → Check
-ScannerChecks custom at state =
-    Then (ClashCheck custom at (config_of state.settings).names state.rules)
+abbrev pub ScannerChecks : (custom : Bool) → (format : Format) → Pos → State → Check
+ScannerChecks custom format at state =
+    Then (ClashCheck custom format at (config_of state.settings).names state.rules)
     (Then (Finds (lonely_fault at state.rules (conditions_of state.rules)))
     (Then (Finds (targets_fault state.rules (conditions_of state.rules)))
     (Finds (scanners_fault at (config_of state.settings).eof state.rules (conditions_of state.rules)))))
@@ -201,9 +226,9 @@ no_rules_fault at [] = Some (NoRules at)
 no_rules_fault at (rule ∷ rules) = None
 
 -- the checks behind the items of a block; those of the scanners of a rules block come where it is used
-abbrev pub BlockChecks : (custom : Bool) → BlockKind → Pos → State → Check
-BlockChecks custom block.Rules at state = Finds (no_rules_fault at state.rules)
-BlockChecks custom kind at state = ScannerChecks custom at state
+abbrev pub BlockChecks : (custom : Bool) → (format : Format) → BlockKind → Pos → State → Check
+BlockChecks custom format block.Rules at state = Finds (no_rules_fault at state.rules)
+BlockChecks custom format kind at state = ScannerChecks custom format at state
 
 -- the kinds of blocks that have definitions, configurations and rules
 pub data HasRules : BlockKind → Type 0 where
@@ -251,7 +276,7 @@ pub record Resolves (options : Options) (kind : BlockKind) (at : Pos) (environme
   pub opening : opening_fault kind at environment.kept ≡ None
   pub state : State
   pub goes : Goes options lexemes (first_state kind environment) items (Ok state)
-  pub checked : BlockChecks options.custom kind at state None
+  pub checked : BlockChecks options.custom options.format kind at state None
   pub after_is : after ≡ environment_behind kind environment state
   pub ends : IsResolvedAs kind options.conds state resolved
 
@@ -268,7 +293,7 @@ pub data StandsUnder (options : Options) : Environment → Type 0 where
 abbrev pub IsFaultWithin : Options → BlockKind → Pos → Environment → List Lexeme → List Item → Fault → Type 0
 IsFaultWithin options kind at environment lexemes items fault =
     Goes options lexemes (first_state kind environment) items (Err fault)
-    ⊎ ((state : State) × Goes options lexemes (first_state kind environment) items (Ok state) × BlockChecks options.custom kind at state (Some fault))
+    ⊎ ((state : State) × Goes options lexemes (first_state kind environment) items (Ok state) × BlockChecks options.custom options.format kind at state (Some fault))
 
 abbrev pub IsBlockFault : Options → BlockKind → Pos → Environment → List Lexeme → List Item → Fault → Type 0
 IsBlockFault options kind at environment lexemes items fault =

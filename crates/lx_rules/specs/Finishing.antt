@@ -15,6 +15,7 @@ use Rattle.lx_rules.specs.declared.conditions.Running.{Running}
 use Rattle.lx_rules.specs.declared.environment.Env.{Env}
 use Rattle.lx_rules.specs.Represents.{Represents}
 use Rattle.lx_base.specs.declared.blocks.BlockKind.{BlockKind}
+use Rattle.lx_base.specs.declared.settings.Format.{Format}
 use Rattle.lx_base.specs.declared.settings.Options.{Options}
 use Rattle.lx_rules.specs.declared.environment.Settings as code
 use Rattle.lx_rules.specs.declared.items.Known.{Known}
@@ -101,9 +102,9 @@ pub record IsCopyOf (held : KeptRule) (rule : Rule) : Type 0 where
   pub size : size_of rule.expr ≡ size_of expr
 
 -- the checks of a block as a whole, before those of its scanners
-abbrev pub WholeChecks : (custom : Bool) → Pos → State → Check
-WholeChecks custom at state =
-    Then (ClashCheck custom at (config_of state.settings).names state.rules)
+abbrev pub WholeChecks : (custom : Bool) → (format : Format) → Pos → State → Check
+WholeChecks custom format at state =
+    Then (ClashCheck custom format at (config_of state.settings).names state.rules)
     (Then (Finds (lonely_fault at state.rules (conditions_of state.rules))) (Finds (targets_fault state.rules (conditions_of state.rules))))
 
 -- the scanner of a condition is as its checks want it, and within the limits
@@ -127,5 +128,5 @@ env_left before is_use own settings =
 -- the scanners of a block resolve so, and all is within the limits
 abbrev pub IsFinished : Options → BlockKind → Pos → Environment → State → Env × Resolved → Type 0
 IsFinished options kind at environment state answer =
-    BlockChecks options.custom kind at state None × Represents answer.0 (environment_behind kind environment state)
+    BlockChecks options.custom options.format kind at state None × Represents answer.0 (environment_behind kind environment state)
     × IsResolvedAs kind options.conds state answer.1 × FitsLimits answer.1

@@ -3,7 +3,7 @@ ghost use Rattle.std.specs.Prelude.{◌≡◌, ◌≢◌, ◌↔◌, ◌+◌, �
 ghost use Rattle.std.specs.List.{AllByRecursion, AllZip};
 ghost use Rattle.lx_base.specs.declared.blocks.BlockKind.TheVariants as block;
 ghost use Rattle.lx_base.specs.declared.limits.TheConstants.{SOURCE_LIMIT};
-ghost use Rattle.lx_rules.specs.Blocks.{BlockChecks, HasRules, IsResolvedAs, MayBeNamed, ScannerChecks, no_rules_fault, SpellingsDiffer, conditions_of, lonely_fault, target_fault};
+ghost use Rattle.lx_rules.specs.Blocks.{BlockChecks, HasRules, IsResolvedAs, LabelsDiffer, MayBeNamed, MayBeTag, ScannerChecks, no_rules_fault, SpellingsDiffer, conditions_of, lonely_fault, target_fault};
 ghost use Rattle.lx_rules.specs.Conditions.{cond_names};
 ghost use Rattle.lx_rules.specs.Environments.{Environment, config_of};
 ghost use Rattle.lx_rules.specs.FitScanners.{FitsLimits};
@@ -20,21 +20,25 @@ use crate::conditions::Conditions;
 use crate::environment::{Env, Settings};
 use crate::items::Known;
 use crate::kept::KeptRule;
+use crate::labels::labels_differ;
 use crate::resolved::{Act, Config, Resolved, Scanner};
 use crate::scanners::scanners;
-use lx_base::names::{do_not_clash, is_tag_name, name_primitives};
-use lx_base::{BlockKind, Fault, Memory, Names, Options, Pos, Sequence, Stop};
+use lx_base::names::{begins_table, do_not_clash, is_tag_name, name_primitives, name_table};
+use lx_base::{BlockKind, Fault, Format, Memory, Names, Options, Pos, Sequence, Stop};
 use lx_exprs::definitions::Definitions;
 use lx_exprs::tags::SharedTags;
 use lx_regex::Tag;
 use std::alloc::Global;
 use std::rc::Rc;
 
-/// Whether no two spellings clash, and none is the name of an input primitive where the input is custom.
-fn spellings_differ(names: &Names, custom: bool) -> bool
-    ensures { IsTrue result ↔ SpellingsDiffer custom names.now }
+/// Whether no two spellings clash, none is the name of an input primitive where the input is custom, and
+/// none of a variable that of the table of sets in text of format 3.
+fn spellings_differ(names: &Names, custom: bool, format: Format) -> bool
+    ensures { IsTrue result ↔ SpellingsDiffer custom format names.now }
 {
-    do_not_clash(names) && !(custom && name_primitives(names))
+    let primitive = custom && name_primitives(names);
+    let table = format == Format::Three && name_table(names);
+    do_not_clash(names) && !primitive && !table
 }
 
 /// Whether a tag has a name that it may have beside the spellings; that of a slash has none.
@@ -45,38 +49,46 @@ fn may_be_named(names: &Names, has_slash: bool, tag: &Tag) -> bool
     has_slash && name.is_empty() || is_tag_name(names, name)
 }
 
-/// Whether each of some tags has a name that it may have beside the spellings.
-fn are_tag_names(names: &Names, has_slash: bool, tags: &[Tag]) -> bool
-    ensures { IsTrue result ↔ AllByRecursion (MayBeNamed names.now has_slash) tags.now }
+/// Whether it also is not called as the table of sets in text of format 3.
+fn may_be_tag(names: &Names, format: Format, has_slash: bool, tag: &Tag) -> bool
+    ensures { IsTrue result ↔ MayBeTag format names.now has_slash tag.now }
+{
+    let table = format == Format::Three && begins_table(tag.name.as_slice());
+    may_be_named(names, has_slash, tag) && !table
+}
+
+/// Whether each of some tags has a name that it may have.
+fn are_tag_names(names: &Names, format: Format, has_slash: bool, tags: &[Tag]) -> bool
+    ensures { IsTrue result ↔ AllByRecursion (MayBeTag format names.now has_slash) tags.now }
 {
     for tag in tags {
-        if !may_be_named(names, has_slash, tag) {
+        if !may_be_tag(names, format, has_slash, tag) {
             return false;
         }
     }
     true
 }
 
-/// Whether each of all tags of a rule has a name that it may have beside the spellings.
-fn are_all_tag_names(names: &Names, has_slash: bool, tags: &SharedTags) -> bool
-    ensures { IsTrue result ↔ AllByRecursion (MayBeNamed names.now has_slash) tags.now }
+/// Whether each of all tags of a rule has a name that it may have.
+fn are_all_tag_names(names: &Names, format: Format, has_slash: bool, tags: &SharedTags) -> bool
+    ensures { IsTrue result ↔ AllByRecursion (MayBeTag format names.now has_slash) tags.now }
 {
     let segments = tags.segments();
     for segment in segments {
-        if !are_tag_names(names, has_slash, segment.tags()) {
+        if !are_tag_names(names, format, has_slash, segment.tags()) {
             return false;
         }
     }
     true
 }
 
-/// Whether each tag of each rule has a name that it may have beside the spellings.
-fn have_tag_names(names: &Names, rules: &Vec<Rc<KeptRule>>) -> bool
-    ensures { IsTrue result ↔ AllByRecursion (λ one. AllByRecursion (MayBeNamed names.now (is_some one.value.slash)) one.value.tags) rules.now.items }
+/// Whether each tag of each rule has a name that it may have.
+fn have_tag_names(names: &Names, format: Format, rules: &Vec<Rc<KeptRule>>) -> bool
+    ensures { IsTrue result ↔ AllByRecursion (λ one. AllByRecursion (MayBeTag format names.now (is_some one.value.slash)) one.value.tags) rules.now.items }
 {
     let held = rules.as_slice();
     for rule in held {
-        if !are_all_tag_names(names, rule.slash.is_some(), &rule.tags) {
+        if !are_all_tag_names(names, format, rule.slash.is_some(), &rule.tags) {
             return false;
         }
     }
@@ -117,12 +129,22 @@ fn targets_fault(known: &Known) -> Option<Fault>
     None
 }
 
-/// Whether the spellings differ, and each tag has a name that it may have beside them.
-fn names_differ(known: &Known, names: &Names, custom: bool) -> bool
-    ensures { IsTrue result ↔ (SpellingsDiffer custom names.now
-        × AllByRecursion (λ one. AllByRecursion (MayBeNamed names.now (is_some one.value.slash)) one.value.tags) known.now.rules.items) }
+/// Whether the spellings differ, each tag has a name that it may have, and so has each condition a label.
+fn names_differ(
+    alloc: Global,
+    known: &Known,
+    names: &Names,
+    options: &Options,
+) -> Result<bool, Memory>
+    ensures { IfOk result (λ differ. IsTrue differ ↔ (SpellingsDiffer options.now.custom options.now.format names.now
+        × AllByRecursion (λ one. AllByRecursion (MayBeTag options.now.format names.now (is_some one.value.slash)) one.value.tags) known.now.rules.items
+        × LabelsDiffer options.now.format names.now (cond_names known.now.conds))) }
 {
-    spellings_differ(names, custom) && have_tag_names(names, &known.rules)
+    let format = options.format;
+    let spellings = spellings_differ(names, options.custom, format);
+    let tags = have_tag_names(names, format, &known.rules);
+    let labels = labels_differ(alloc, names, format, &known.conds)?;
+    Ok(spellings && tags && labels)
 }
 
 /// The fault of rules that are all of `<*>`; at the opener of the block.
@@ -136,16 +158,24 @@ fn lonely_fault(known: &Known, at: Pos) -> Option<Fault>
 }
 
 /// The fault of a block as a whole, before those of its scanners, if there is one; its opener stands at this place.
-fn whole_fault(known: &Known, names: &Names, custom: bool, at: Pos) -> Option<Fault>
-    ensures { (state : State) → Holds known.now state → names.now ≡ (config_of state.settings).names → WholeChecks custom at state result }
+fn whole_fault(
+    alloc: Global,
+    known: &Known,
+    names: &Names,
+    options: &Options,
+    at: Pos,
+) -> Result<Option<Fault>, Memory>
+    ensures { IfOk result (λ found. (state : State) → Holds known.now state → names.now ≡ (config_of state.settings).names
+        → WholeChecks options.now.custom options.now.format at state found) }
 {
-    if !names_differ(known, names, custom) {
-        return Some(Fault::BadValue { at });
+    let differ = names_differ(alloc, known, names, options)?;
+    if !differ {
+        return Ok(Some(Fault::BadValue { at }));
     }
     if let Some(fault) = lonely_fault(known, at) {
-        return Some(fault);
+        return Ok(Some(fault));
     }
-    targets_fault(known)
+    Ok(targets_fault(known))
 }
 
 /// The scanners of a block whose opener stands at this place, where its checks find nothing.
@@ -158,11 +188,12 @@ fn checked_scanners(
 ) -> Result<Sequence<Scanner>, Stop>
     requires { (state : State) × Holds known.now state }
     ensures { (state : State) → Holds known.now state → names.now ≡ (config_of state.settings).names → MatchResult result
-        (λ scanners. WholeChecks options.now.custom at state None
+        (λ scanners. WholeChecks options.now.custom options.now.format at state None
         × AllZip (IsBuiltScanner options.now.conds at (config_of state.settings).eof state.rules) (conditions_of state.rules) scanners)
-        (StopsAt (ScannerChecks options.now.custom at state)) }
+        (StopsAt (ScannerChecks options.now.custom options.now.format at state)) }
 {
-    if let Some(fault) = whole_fault(known, names, options.custom, at) {
+    let whole = whole_fault(alloc, known, names, options, at)?;
+    if let Some(fault) = whole {
         return Err(Stop::Fault(fault));
     }
     scanners(alloc, known, options.conds, at)
@@ -206,7 +237,7 @@ fn finish_rules(
     requires holds { (state : State) × Holds known state }
     ensures { (state : State) (environment : Environment) → Holds known state → IsBefore block.Rules environment known.before known.is_use → MatchResult result
         (IsFinished options.now block.Rules at environment state)
-        (StopsAt (BlockChecks options.now.custom block.Rules at state)) }
+        (StopsAt (BlockChecks options.now.custom options.now.format block.Rules at state)) }
 {
     let resolved = rules_resolved(alloc, &known, at)?;
     Ok((known.into_kept(), resolved))
@@ -226,7 +257,7 @@ fn finish_scanners(
     requires other { kind ≢ block.Rules }
     ensures { (state : State) (environment : Environment) → Holds known state → IsBefore kind environment known.before known.is_use → MatchResult result
         (IsFinished options.now kind at environment state)
-        (StopsAt (BlockChecks options.now.custom kind at state)) }
+        (StopsAt (BlockChecks options.now.custom options.now.format kind at state)) }
 {
     let config = config(alloc, &known)?;
     let scanners = checked_scanners(alloc, &known, &config.names, options, at)?;
@@ -252,7 +283,7 @@ pub(crate) fn finish(
     requires kind { HasRules kind }
     ensures { (state : State) (environment : Environment) → Holds known state → IsBefore kind environment known.before known.is_use → MatchResult result
         (IsFinished options.now kind at environment state)
-        (StopsAt (BlockChecks options.now.custom kind at state)) }
+        (StopsAt (BlockChecks options.now.custom options.now.format kind at state)) }
 {
     if kind == BlockKind::Rules {
         finish_rules(alloc, known, options, at)

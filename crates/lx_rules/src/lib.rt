@@ -10,6 +10,7 @@ mod finishing;
 mod heads;
 mod items;
 mod kept;
+mod labels;
 mod laws;
 mod lists;
 mod opening;

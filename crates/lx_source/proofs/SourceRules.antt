@@ -9,6 +9,7 @@ use Rattle.lx_base.specs.declared.faults.Fault.{Fault}
 use Rattle.lx_base.specs.declared.faults.Fault.TheVariants.{NoRules}
 use Rattle.lx_base.specs.declared.limits.TheConstants.{NESTING_LIMIT, SIZE_LIMIT, TAG_LIMIT}
 use Rattle.lx_base.specs.declared.places.Pos.{Pos}
+use Rattle.lx_base.specs.declared.settings.Format.TheVariants.{Three, Two}
 use Rattle.lx_ccode.proofs.UsualNames.{DoNotClash-usual}
 use Rattle.lx_exprs.specs.Checks.{Check, Finds, Then, is_among}
 use Rattle.lx_exprs.specs.Defined.{Meaning, term_of_meaning}
@@ -18,7 +19,7 @@ use Rattle.lx_regex.specs.Term.{Term}
 use Rattle.lx_regex.specs.declared.rules.Kind.{Kind}
 use Rattle.lx_regex.specs.declared.rules.Kind.TheVariants.{Plain, Default}
 use Rattle.lx_regex.specs.declared.rules.Tag.{Tag}
-use Rattle.lx_rules.specs.Blocks.{ClashCheck, MayBeNamed, NoClash, ScannerChecks, conditions_behind, conditions_of, every, is_bare, limits_fault, lonely_fault, nesting_of, not_of_kind, of_kind, own_or, pair_fault, pattern_of, rules_of, rules_under, scanner_fault, scanner_rules, scanners_fault, shared_beside, size_of, tags_of, targets_fault}
+use Rattle.lx_rules.specs.Blocks.{ClashCheck, MayBeTag, NoClash, ScannerChecks, conditions_behind, conditions_of, every, is_bare, limits_fault, lonely_fault, nesting_of, not_of_kind, of_kind, own_or, pair_fault, pattern_of, rules_of, rules_under, scanner_fault, scanner_rules, scanners_fault, shared_beside, size_of, tags_of, targets_fault}
 use Rattle.lx_rules.specs.Environments.{Settings, no_settings}
 use Rattle.lx_rules.specs.Items.{State, any_meaning, as_rule, is_default, is_end}
 use Rattle.lx_rules.specs.Rules.{RuleOf}
@@ -222,15 +223,23 @@ scanner-fair at (rule ∷ more) some few are =
 -- ---- no tag has a name that clashes
 
 may-be-named : (rules : List RuleOf) → AreFair rules
-    → AllByRecursion (λ (rule : RuleOf). AllByRecursion (MayBeNamed usual_names (is_some rule.slash)) rule.meaning.tags) rules
+    → AllByRecursion (λ (rule : RuleOf). AllByRecursion (MayBeTag Two usual_names (is_some rule.slash)) rule.meaning.tags) rules
 may-be-named [] are = tt
 may-be-named (rule ∷ rules) are = (
-  subst (λ (l : List Tag). AllByRecursion (MayBeNamed usual_names (is_some rule.slash)) l) (sym are.0.tags) tt,
+  subst (λ (l : List Tag). AllByRecursion (MayBeTag Two usual_names (is_some rule.slash)) l) (sym are.0.tags) tt,
   may-be-named rules are.1,
 )
 
-no-clash : (rules : List RuleOf) → AreFair rules → NoClash false usual_names rules
-no-clash rules are = ((DoNotClash-usual, λ is. absurd (false≢true is)), may-be-named rules are)
+-- the format is not 3
+not-three : {A : Type 0} → Two ≡ Three → A
+not-three three = absurd (let h = three in cc)
+
+no-clash : (rules : List RuleOf) → AreFair rules → NoClash false Two usual_names rules
+no-clash rules are = (
+  (DoNotClash-usual, (λ is. absurd (false≢true is)), not-three),
+  may-be-named rules are,
+  not-three,
+)
 
 -- ---- their terms
 
@@ -256,7 +265,7 @@ clear-Then : (First Second : Check) → IsClear First → IsClear Second → IsC
 clear-Then First Second first second fault (inl found) = second fault found.1
 clear-Then First Second first second fault (inr found) = first found.0 found.1
 
-clear-clash : (at : Pos) (names : Spellings) (rules : List RuleOf) → NoClash false names rules → IsClear (ClashCheck false at names rules)
+clear-clash : (at : Pos) (names : Spellings) (rules : List RuleOf) → NoClash false Two names rules → IsClear (ClashCheck false Two at names rules)
 clear-clash at names rules holds fault (inl found) = let same : Some fault ≡ None = found.1 in cc
 clear-clash at names rules holds fault (inr found) = found.0 holds
 
@@ -299,21 +308,21 @@ module _ (count : ℕ) (few : count ≤ 200) (rules : List RuleOf) (are : AreRul
 
   -- the checks behind the items find no fault
   pub checks_clear : (at : Pos) (state : State) → state.rules ≡ rules → state.settings ≡ no_refills
-      → IsClear (ScannerChecks false at state)
+      → IsClear (ScannerChecks false Two at state)
   checks_clear at state rules_are settings_are =
       let settings = no_refills in
       let conds = conditions_of rules in
-      let Clash = ClashCheck false at usual_names rules in
+      let Clash = ClashCheck false Two at usual_names rules in
       let Lonely = Finds (lonely_fault at rules conds) in
       let Targets = Finds (targets_fault rules conds) in
       let Scanners = Finds (scanners_fault at None rules conds) in
       let known : State = record { definitions = state.definitions; settings = settings; rules = rules } in
-      let clear : IsClear (ScannerChecks false at known) =
+      let clear : IsClear (ScannerChecks false Two at known) =
       clear-Then Clash (Then Lonely (Then Targets Scanners)) (clear-clash at usual_names rules (no-clash rules fair))
       (clear-Then Lonely (Then Targets Scanners)
       (clear-Finds (lonely_fault at rules conds) (ap (lonely_fault at rules) one_condition ∙ not-lonely at rules))
       (clear-Then Targets Scanners (clear-Finds (targets_fault rules conds) (no-targets rules conds fair))
       (clear-Finds (scanners_fault at None rules conds) (no_scanner_fault at)))) in
-      subst (λ (s : State). IsClear (ScannerChecks false at s))
+      subst (λ (s : State). IsClear (ScannerChecks false Two at s))
       (ap₂ (λ (s : Settings) (l : List RuleOf). record { definitions = state.definitions; settings = s; rules = l }) (sym settings_are)
       (sym rules_are)) clear

@@ -13,6 +13,7 @@ use Rattle.lx_parse.specs.Sorts.{sorts_of}
 use Rattle.lx_parse.specs.declared.items.Item.{Item}
 use Rattle.lx_parse.proofs.Ranges.{body_has}
 use Rattle.lx_token.specs.declared.list.Token.{Token}
+use Rattle.lx_base.specs.declared.settings.Format.{Format}
 use Rattle.lx_rules.specs.Blocks.{BlockChecks, ClashCheck, HasRules, IsBlockFault, IsResolvedAs, NoClash, Resolves, ScannerChecks, conditions_of, environment_behind, lonely_fault, no_rules_fault, of_scanners, of_use, opening_fault, scanners_fault, targets_fault, to_keep}
 use Rattle.lx_exprs.specs.Checks.{Check, Finds, Then}
 use Rattle.lx_rules.specs.Environments.{Environment, config_of}
@@ -30,34 +31,34 @@ use Rattle.lx_rules.proofs.Blocks.Readiness.{IsUsable, first_buildable, first_wi
 use Rattle.lx_rules.proofs.Blocks.ItemVerdicts.{IsStateBuildable, goes_buildable, goes_decides}
 
 -- the checks behind the items find a fault, or nothing
-scanners_decide : (custom : Bool) (at : Pos) (state : State) → Decides (ScannerChecks custom at state)
-scanners_decide custom at state =
+scanners_decide : (custom : Bool) (format : Format) (at : Pos) (state : State) → Decides (ScannerChecks custom format at state)
+scanners_decide custom format at state =
     let names = (config_of state.settings).names in
     let Scanners : Check = Finds (scanners_fault at (config_of state.settings).eof state.rules (conditions_of state.rules)) in
     let Targets : Check = Finds (targets_fault state.rules (conditions_of state.rules)) in
     let Lonely : Check = Finds (lonely_fault at state.rules (conditions_of state.rules)) in
-    then_decides (ClashCheck custom at names state.rules) (Then Lonely (Then Targets Scanners))
-    (and_then (excluded_middle (NoClash custom names state.rules)) (λ found. surely (clash found)))
+    then_decides (ClashCheck custom format at names state.rules) (Then Lonely (Then Targets Scanners))
+    (and_then (excluded_middle (NoClash custom format names state.rules)) (λ found. surely (clash found)))
     (then_decides Lonely (Then Targets Scanners) (finds_decides (lonely_fault at state.rules (conditions_of state.rules)))
     (then_decides Targets Scanners (finds_decides (targets_fault state.rules (conditions_of state.rules)))
     (finds_decides (scanners_fault at (config_of state.settings).eof state.rules (conditions_of state.rules)))))
   where
-    clash : NoClash custom (config_of state.settings).names state.rules ⊎ (NoClash custom (config_of state.settings).names state.rules → ⊥)
-        → (fault : Option Fault) × ClashCheck custom at (config_of state.settings).names state.rules fault
+    clash : NoClash custom format (config_of state.settings).names state.rules ⊎ (NoClash custom format (config_of state.settings).names state.rules → ⊥)
+        → (fault : Option Fault) × ClashCheck custom format at (config_of state.settings).names state.rules fault
     clash (inl free) = (None, inl (free, refl))
     clash (inr clashes) = (Some (BadValue at), inr (clashes, refl))
 
 -- and so do those of a block of any kind that has rules
-kind_decides : (custom : Bool) (kind : BlockKind) → HasRules kind → (at : Pos) (state : State) → Decides (BlockChecks custom kind at state)
-kind_decides custom kind of_scanners at state = scanners_decide custom at state
-kind_decides custom kind to_keep at state = finds_decides (no_rules_fault at state.rules)
-kind_decides custom kind of_use at state = scanners_decide custom at state
+kind_decides : (custom : Bool) (format : Format) (kind : BlockKind) → HasRules kind → (at : Pos) (state : State) → Decides (BlockChecks custom format kind at state)
+kind_decides custom format kind of_scanners at state = scanners_decide custom format at state
+kind_decides custom format kind to_keep at state = finds_decides (no_rules_fault at state.rules)
+kind_decides custom format kind of_use at state = scanners_decide custom format at state
 
 -- what a block resolves to whose checks find nothing
-kind_built : (options : Options) (kind : BlockKind) → HasRules kind → (at : Pos) (state : State) → BlockChecks options.custom kind at state None
+kind_built : (options : Options) (kind : BlockKind) → HasRules kind → (at : Pos) (state : State) → BlockChecks options.custom options.format kind at state None
     → AllByRecursion IsRuleBuildable state.rules → (resolved : Resolved) × IsResolvedAs kind options.conds state resolved
-kind_built options kind of_scanners at state checked buildable = block_built options.conds options.custom at state checked buildable
-kind_built options kind of_use at state checked buildable = block_built options.conds options.custom at state checked buildable
+kind_built options kind of_scanners at state checked buildable = block_built options.conds options.custom options.format at state checked buildable
+kind_built options kind of_use at state checked buildable = block_built options.conds options.custom options.format at state checked buildable
 kind_built options kind to_keep at state checked buildable =
     (record { scanners = []; acts = []; config = config_of state.settings }, (refl, refl, refl))
 
@@ -79,7 +80,7 @@ module _ (options : Options) (kind : BlockKind) (has : HasRules kind) (at : Pos)
       ⊎ ((fault : Fault) × IsBlockFault options kind at environment lexemes items fault)
 
   module _ (opened : opening_fault kind at environment.kept ≡ None) where
-    state_verdict : (state : State) → Goes options lexemes before items (Ok state) → (fault : Option Fault) → BlockChecks options.custom kind at state fault → IsVerdict
+    state_verdict : (state : State) → Goes options lexemes before items (Ok state) → (fault : Option Fault) → BlockChecks options.custom options.format kind at state fault → IsVerdict
     state_verdict state goes None checked =
         let built = kind_built options kind has at state checked (goes_buildable options lexemes before state items first_built goes).rules in
         inl (
@@ -91,7 +92,7 @@ module _ (options : Options) (kind : BlockKind) (has : HasRules kind) (at : Pos)
 
     items_verdict : (result : Result State Fault) → Goes options lexemes before items result → Surely IsVerdict
     items_verdict (Err fault) goes = surely (inr (fault, inr (opened, inl goes)))
-    items_verdict (Ok state) goes = and_then (kind_decides options.custom kind has at state) (λ found. surely (state_verdict state goes found.0 found.1))
+    items_verdict (Ok state) goes = and_then (kind_decides options.custom options.format kind has at state) (λ found. surely (state_verdict state goes found.0 found.1))
 
     opened_verdict : EachHasExpressions (sorts_at lexemes) items → Surely IsVerdict
     opened_verdict expressions =

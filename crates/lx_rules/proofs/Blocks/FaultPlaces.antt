@@ -147,10 +147,10 @@ module _ (file : ℕ) where
     items-file (next after checks becomes goes) within fault is = items-file goes within.1 fault is
 
     module _ (at : Pos) (at_is : at.file ≡ file) where
-      clash-file : (names : Spellings) (rules : List RuleOf) → FindsIn file (ClashCheck options.custom at names rules)
+      clash-file : (names : Spellings) (rules : List RuleOf) → FindsIn file (ClashCheck options.custom options.format at names rules)
       clash-file names rules = record { finds = by }
         where
-          by : (fault : Fault) → ClashCheck options.custom at names rules (Some fault) → StandsIn file fault
+          by : (fault : Fault) → ClashCheck options.custom options.format at names rules (Some fault) → StandsIn file fault
           by fault (inl found) = let none = found.1 in absurd cc
           by fault (inr found) = file-found file (Some (BadValue at)) at_is fault found.1
 
@@ -225,7 +225,7 @@ module _ (file : ℕ) where
 
       -- and so does that of the checks of scanners
       scanners-place : (state : State) (front : List RuleOf) → AreTargetsBehind front state.rules → (fault : Fault)
-          → ScannerChecks options.custom at state (Some fault) → StandsIn file fault ⊎ IsTargetFault front fault
+          → ScannerChecks options.custom options.format at state (Some fault) → StandsIn file fault ⊎ IsTargetFault front fault
       scanners-place state front targets fault (inr (found, clash, is)) =
           inl (found-file (Some found) fault ((clash-file (config_of state.settings).names state.rules).finds found clash) is)
       scanners-place state front targets fault (inl (free, inr (found, lonely, is))) =
@@ -243,7 +243,7 @@ module _ (file : ℕ) where
       rules-file (rule ∷ rules) = tt
 
       block-place : (kind : BlockKind) → HasRules kind → (state : State) (front : List RuleOf) → AreTargetsBehind front state.rules → (fault : Fault)
-          → BlockChecks options.custom kind at state (Some fault) → StandsIn file fault ⊎ IsTargetFault front fault
+          → BlockChecks options.custom options.format kind at state (Some fault) → StandsIn file fault ⊎ IsTargetFault front fault
       block-place kind of_scanners state front targets fault found = scanners-place state front targets fault found
       block-place kind of_use state front targets fault found = scanners-place state front targets fault found
       block-place kind to_keep state front targets fault found = inl (found-file (no_rules_fault at state.rules) fault (rules-file state.rules) found)

@@ -12,6 +12,7 @@ use Rattle.lx_exprs.specs.Seen.{definitions_view}
 use Rattle.std.proofs.lemmas.List.Elements.{All-from_recursion, All-nil}
 use Rattle.std.proofs.lemmas.List.{length-map}
 use Rattle.lx_base.specs.declared.faults.Fault.{Fault}
+use Rattle.lx_base.specs.declared.settings.Format.{Format}
 use Rattle.lx_base.specs.declared.faults.Fault.TheVariants.{BadValue, NoRules}
 use Rattle.lx_base.specs.declared.faults.Stop.{Stop}
 use Rattle.lx_base.specs.declared.faults.Stop.TheVariants as stop
@@ -26,7 +27,7 @@ use Rattle.lx_rules.specs.declared.kept.KeptRule.{KeptRule}
 use Rattle.lx_rules.specs.declared.resolved.Act.{Act}
 use Rattle.lx_rules.specs.declared.resolved.Resolved.{Resolved}
 use Rattle.lx_rules.specs.declared.resolved.Scanner.{Scanner}
-use Rattle.lx_rules.specs.Blocks.{BlockChecks, ClashCheck, HasRules, IsResolved, IsResolvedAs, MayBeNamed, NoClash, ScannerChecks, SpellingsDiffer, conditions_of, environment_behind, lonely_fault, no_rules_fault, of_scanners, of_use, scanners_fault, target_fault, targets_fault, to_keep}
+use Rattle.lx_rules.specs.Blocks.{BlockChecks, ClashCheck, HasRules, IsResolved, IsResolvedAs, LabelsDiffer, MayBeTag, NoClash, ScannerChecks, SpellingsDiffer, conditions_of, environment_behind, lonely_fault, no_rules_fault, of_scanners, of_use, scanners_fault, target_fault, targets_fault, to_keep}
 use Rattle.lx_rules.specs.Conditions.{cond_names}
 use Rattle.lx_rules.specs.Environments.{Environment, Settings, config_of}
 use Rattle.lx_rules.specs.Finishing.{IsBuiltScanner, WholeChecks, env_keeping, env_left, kept_targets_fault}
@@ -96,9 +97,9 @@ module _ (names : List (List ℕ)) (all : List RuleOf) where
   rules_counted (one ∷ held) [] are = absurd are
   rules_counted (one ∷ held) (rule ∷ rules) are = ap suc (rules_counted held rules are.1)
 
-module _ (custom : Bool) (at : Pos) (state : State) where
+module _ (custom : Bool) (format : Format) (at : Pos) (state : State) where
   abbrev Clash : Check
-  Clash = ClashCheck custom at (config_of state.settings).names state.rules
+  Clash = ClashCheck custom format at (config_of state.settings).names state.rules
 
   abbrev Lonely : Check
   Lonely = Finds (lonely_fault at state.rules (conditions_of state.rules))
@@ -110,56 +111,59 @@ module _ (custom : Bool) (at : Pos) (state : State) where
   Scanners = Finds (scanners_fault at (config_of state.settings).eof state.rules (conditions_of state.rules))
 
   -- the fault of the block as a whole is the first one
-  pub whole_stops : (fault : Fault) → WholeChecks custom at state (Some fault) → ScannerChecks custom at state (Some fault)
+  pub whole_stops : (fault : Fault) → WholeChecks custom format at state (Some fault) → ScannerChecks custom format at state (Some fault)
   whole_stops fault (inl (clash, inl (lonely, targets))) = inl (clash, inl (lonely, inr (fault, targets, refl)))
   whole_stops fault (inl (clash, inr found)) = inl (clash, inr found)
   whole_stops fault (inr found) = inr found
 
   -- where there is none, it is that of the scanners
-  pub whole_passes : (next : Option Fault) → WholeChecks custom at state None → Scanners next → ScannerChecks custom at state next
+  pub whole_passes : (next : Option Fault) → WholeChecks custom format at state None → Scanners next → ScannerChecks custom format at state next
   whole_passes next checked found =
       let one = then-none Clash (Then Lonely Targets) checked in
       let two = then-none Lonely Targets one.1 in
       inl (one.0, inl (two.0, inl (two.1, found)))
 
-  scanners_stop : (stopped : Stop) → WholeChecks custom at state None → StopsAt Scanners stopped → StopsAt (ScannerChecks custom at state) stopped
+  scanners_stop : (stopped : Stop) → WholeChecks custom format at state None → StopsAt Scanners stopped → StopsAt (ScannerChecks custom format at state) stopped
   scanners_stop stop.Memory checked stops = tt
   scanners_stop (stop.Fault fault) checked stops = whole_passes (Some fault) checked stops
 
 -- the scanners of a block as a whole whose checks find nothing
-pub scanners_end : (named custom : Bool) (at : Pos) (state : State) (result : Result (List Scanner) Stop) → WholeChecks custom at state None
-    → MatchResult result (AllZip (IsBuiltScanner named at (config_of state.settings).eof state.rules) (conditions_of state.rules)) (StopsAt (Scanners custom at state))
-    → MatchResult result (λ scanners. WholeChecks custom at state None × AllZip (IsBuiltScanner named at (config_of state.settings).eof state.rules) (conditions_of state.rules) scanners)
-    (StopsAt (ScannerChecks custom at state))
-scanners_end named custom at state (Ok scanners) checked built = (checked, built)
-scanners_end named custom at state (Err stopped) checked stops = scanners_stop custom at state stopped checked stops
+pub scanners_end : (named custom : Bool) (format : Format) (at : Pos) (state : State) (result : Result (List Scanner) Stop) → WholeChecks custom format at state None
+    → MatchResult result (AllZip (IsBuiltScanner named at (config_of state.settings).eof state.rules) (conditions_of state.rules)) (StopsAt (Scanners custom format at state))
+    → MatchResult result (λ scanners. WholeChecks custom format at state None × AllZip (IsBuiltScanner named at (config_of state.settings).eof state.rules) (conditions_of state.rules) scanners)
+    (StopsAt (ScannerChecks custom format at state))
+scanners_end named custom format at state (Ok scanners) checked built = (checked, built)
+scanners_end named custom format at state (Err stopped) checked stops = scanners_stop custom format at state stopped checked stops
 
-module _ (known : Known) (state : State) (holds : Holds known state) (custom : Bool) (at : Pos) (spelled : Spellings) (usually : spelled ≡ (config_of state.settings).names) where
+module _ (known : Known) (state : State) (holds : Holds known state) (custom : Bool) (format : Format) (at : Pos) (spelled : Spellings) (usually : spelled ≡ (config_of state.settings).names) where
   abbrev HaveNames : Type 0
   HaveNames =
-      SpellingsDiffer custom spelled
-      × AllByRecursion (λ (one : Rc KeptRule Global). AllByRecursion (MayBeNamed spelled (is_some one.value.slash)) one.value.tags) known.rules.items
+      SpellingsDiffer custom format spelled
+      × AllByRecursion (λ (one : Rc KeptRule Global). AllByRecursion (MayBeTag format spelled (is_some one.value.slash)) one.value.tags) known.rules.items
+      × LabelsDiffer format spelled (cond_names known.conds)
 
-  no_clash : HaveNames → NoClash custom (config_of state.settings).names state.rules
+  no_clash : HaveNames → NoClash custom format (config_of state.settings).names state.rules
   no_clash have =
-      subst (λ (words : Spellings). NoClash custom words state.rules) usually (
+      subst (λ (words : Spellings). NoClash custom format words state.rules) usually (
         have.0,
-        tags_forth (cond_names known.conds) state.rules (λ has_slash tags. AllByRecursion (MayBeNamed spelled has_slash) tags) (rules_view known.rules) state.rules holds.rules.each
-            (all_seen (λ (one : KeptRule). AllByRecursion (MayBeNamed spelled (is_some one.slash)) one.tags) known.rules.items have.1),
+        tags_forth (cond_names known.conds) state.rules (λ has_slash tags. AllByRecursion (MayBeTag format spelled has_slash) tags) (rules_view known.rules) state.rules holds.rules.each
+            (all_seen (λ (one : KeptRule). AllByRecursion (MayBeTag format spelled (is_some one.slash)) one.tags) known.rules.items have.1),
+        subst (LabelsDiffer format spelled) holds.rules.names have.2,
       )
 
   -- names that clash
-  pub whole_clash : (HaveNames → ⊥) → WholeChecks custom at state (Some (BadValue at))
+  pub whole_clash : (HaveNames → ⊥) → WholeChecks custom format at state (Some (BadValue at))
   whole_clash clash =
       inr (
         BadValue at,
         inr (
           (λ free.
-              let plain = subst (λ (words : Spellings). NoClash custom words state.rules) (sym usually) free in
+              let plain = subst (λ (words : Spellings). NoClash custom format words state.rules) (sym usually) free in
               clash (
                 plain.0,
-                all_shared (λ (one : KeptRule). AllByRecursion (MayBeNamed spelled (is_some one.slash)) one.tags) known.rules.items
-                    (tags_back (cond_names known.conds) state.rules (λ has_slash tags. AllByRecursion (MayBeNamed spelled has_slash) tags) (rules_view known.rules) state.rules holds.rules.each plain.1),
+                all_shared (λ (one : KeptRule). AllByRecursion (MayBeTag format spelled (is_some one.slash)) one.tags) known.rules.items
+                    (tags_back (cond_names known.conds) state.rules (λ has_slash tags. AllByRecursion (MayBeTag format spelled has_slash) tags) (rules_view known.rules) state.rules holds.rules.each plain.1),
+                subst (LabelsDiffer format spelled) (sym holds.rules.names) plain.2,
               )),
           refl,
         ),
@@ -175,13 +179,13 @@ module _ (known : Known) (state : State) (holds : Holds known state) (custom : B
   -- rules that are all of `<*>`
   pub whole_lonely : HaveNames → (fault : Fault)
       → ((rules : List RuleOf) → length rules ≡ length (rules_view known.rules) → Some fault ≡ lonely_fault at rules (cond_names known.conds))
-      → WholeChecks custom at state (Some fault)
+      → WholeChecks custom format at state (Some fault)
   whole_lonely have fault is = inl (inl (no_clash have, refl), inr (fault, lonely_is (Some fault) is, refl))
 
   -- and targets
   pub whole_targets : HaveNames → (found : Option Fault)
       → ((rules : List RuleOf) → length rules ≡ length (rules_view known.rules) → None ≡ lonely_fault at rules (cond_names known.conds))
-      → found ≡ kept_targets_fault (cond_names known.conds) (rules_view known.rules) known.acts.items → WholeChecks custom at state found
+      → found ≡ kept_targets_fault (cond_names known.conds) (rules_view known.rules) known.acts.items → WholeChecks custom format at state found
   whole_targets have found none targets =
       inl (
         inl (no_clash have, refl),
@@ -197,16 +201,16 @@ module _ (known : Known) (state : State) (holds : Holds known state) where
   pub config_known : config_of (settings_view known.settings) ≡ config_of state.settings
   config_known = ap config_of holds.settings
 
-  module _ (named custom : Bool) (at : Pos) (resolved : Resolved) (config : resolved.config ≡ config_of (settings_view known.settings)) where
+  module _ (named custom : Bool) (format : Format) (at : Pos) (resolved : Resolved) (config : resolved.config ≡ config_of (settings_view known.settings)) where
     -- what the scanners of a block resolve to
     pub scanners_finished :
-        resolved.acts ≡ known.acts.items → length known.acts.items ≤ 33554432 → WholeChecks custom at state None
+        resolved.acts ≡ known.acts.items → length known.acts.items ≤ 33554432 → WholeChecks custom format at state None
         → AllZip (IsBuiltScanner named at (config_of state.settings).eof state.rules) (conditions_of state.rules) resolved.scanners
-        → ScannerChecks custom at state None × IsResolved named state resolved × FitsLimits resolved
+        → ScannerChecks custom format at state None × IsResolved named state resolved × FitsLimits resolved
     scanners_finished acts few checked built =
         let conds = conditions_of state.rules in
         let counted : length resolved.acts ≡ length state.rules = ap (λ (l : List Act). length l) acts ∙ acts_counted known state holds in (
-          whole_passes custom at state None checked (sym (built_checked named at (config_of state.settings).eof state.rules conds resolved.scanners built)),
+          whole_passes custom format at state None checked (sym (built_checked named at (config_of state.settings).eof state.rules conds resolved.scanners built)),
           record {
             scanners = built_scanners named at (config_of state.settings).eof state.rules conds resolved.scanners built;
             acts = acts ∙ holds.acts;
@@ -295,18 +299,18 @@ module _ (known : Known) (state : State) (holds : Holds known state) (at : Pos) 
 
 -- the checks behind the items of a block that is not kept are those of its scanners, and so is what it resolves to
 module _ (kind : BlockKind) (has : HasRules kind) (other : kind ≢ block.Rules) where
-  pub scanners_checks : (custom : Bool) (at : Pos) (state : State) (fault : Option Fault) → ScannerChecks custom at state fault → BlockChecks custom kind at state fault
-  scanners_checks custom at state fault found = of kind has other
+  pub scanners_checks : (custom : Bool) (format : Format) (at : Pos) (state : State) (fault : Option Fault) → ScannerChecks custom format at state fault → BlockChecks custom format kind at state fault
+  scanners_checks custom format at state fault found = of kind has other
     where
-      of : (k : BlockKind) → HasRules k → k ≢ block.Rules → BlockChecks custom k at state fault
+      of : (k : BlockKind) → HasRules k → k ≢ block.Rules → BlockChecks custom format k at state fault
       of k of_scanners differs = found
       of k to_keep differs = absurd (differs refl)
       of k of_use differs = found
 
-  pub scanners_stops : (custom : Bool) (at : Pos) (state : State) (stopped : Stop) → StopsAt (ScannerChecks custom at state) stopped
-      → StopsAt (BlockChecks custom kind at state) stopped
-  scanners_stops custom at state stop.Memory stops = tt
-  scanners_stops custom at state (stop.Fault fault) stops = scanners_checks custom at state (Some fault) stops
+  pub scanners_stops : (custom : Bool) (format : Format) (at : Pos) (state : State) (stopped : Stop) → StopsAt (ScannerChecks custom format at state) stopped
+      → StopsAt (BlockChecks custom format kind at state) stopped
+  scanners_stops custom format at state stop.Memory stops = tt
+  scanners_stops custom format at state (stop.Fault fault) stops = scanners_checks custom format at state (Some fault) stops
 
   pub scanners_as : (named : Bool) (state : State) (resolved : Resolved) → IsResolved named state resolved → IsResolvedAs kind named state resolved
   scanners_as named state resolved is = of kind has other

@@ -111,7 +111,7 @@ if_ok_so P P' Q (Err b) given p = tt
 
 pub stops_behind : (options : Options) (kind : BlockKind) (at : Pos) (environment : Environment) (lexemes : List Lexeme) (items : List Item) (state : State) (stopped : Stop)
     → opening_fault kind at environment.kept ≡ None → Goes options lexemes (first_state kind environment) items (Ok state)
-    → StopsAt (BlockChecks options.custom kind at state) stopped → StopsWith options kind at environment lexemes items stopped
+    → StopsAt (BlockChecks options.custom options.format kind at state) stopped → StopsWith options kind at environment lexemes items stopped
 stops_behind options kind at environment lexemes items state stop.Memory opened goes stops = tt
 stops_behind options kind at environment lexemes items state (stop.Fault fault) opened goes stops = inr (opened, inr (state, goes, stops))
 

@@ -162,10 +162,10 @@ module _ (options : Options) (lexemes : List Lexeme) where
   }
 
   module _ (at : Pos) where
-    clash-one : (names : Spellings) (rules : List RuleOf) → FindsOne (ClashCheck options.custom at names rules)
-    clash-one names rules = FindsOne-by (NoClash options.custom names rules) (NoClash options.custom names rules → ⊥) None (Some (BadValue at)) (λ holds fails. fails holds)
+    clash-one : (names : Spellings) (rules : List RuleOf) → FindsOne (ClashCheck options.custom options.format at names rules)
+    clash-one names rules = FindsOne-by (NoClash options.custom options.format names rules) (NoClash options.custom options.format names rules → ⊥) None (Some (BadValue at)) (λ holds fails. fails holds)
 
-    scanners-one : (state : State) → FindsOne (ScannerChecks options.custom at state)
+    scanners-one : (state : State) → FindsOne (ScannerChecks options.custom options.format at state)
     scanners-one state =
         let names = (config_of state.settings).names in
         let conds = conditions_of state.rules in
@@ -173,12 +173,12 @@ module _ (options : Options) (lexemes : List Lexeme) where
         let Targets = Finds (targets_fault state.rules conds) in
         let eof = (config_of state.settings).eof in
         let Scanners = Finds (scanners_fault at eof state.rules conds) in
-        FindsOne-Then (ClashCheck options.custom at names state.rules) (Then Lonely (Then Targets Scanners)) (clash-one names state.rules)
+        FindsOne-Then (ClashCheck options.custom options.format at names state.rules) (Then Lonely (Then Targets Scanners)) (clash-one names state.rules)
         (FindsOne-Then Lonely (Then Targets Scanners) (FindsOne-Finds (lonely_fault at state.rules conds))
         (FindsOne-Then Targets Scanners (FindsOne-Finds (targets_fault state.rules conds)) (FindsOne-Finds (scanners_fault at eof state.rules conds))))
 
     -- so have those of a block of any kind that has rules
-    block-one : (kind : BlockKind) → HasRules kind → (state : State) → FindsOne (BlockChecks options.custom kind at state)
+    block-one : (kind : BlockKind) → HasRules kind → (state : State) → FindsOne (BlockChecks options.custom options.format kind at state)
     block-one kind of_scanners state = scanners-one state
     block-one kind to_keep state = FindsOne-Finds (no_rules_fault at state.rules)
     block-one kind of_use state = scanners-one state
@@ -190,11 +190,11 @@ module _ (options : Options) (lexemes : List Lexeme) where
       state-one state other goes goes_other = let same = Goes-one goes (Ok other) goes_other in cc
 
       checks-one : (state other : State) (fault found : Option Fault) → Goes options lexemes (first_state kind environment) items (Ok state)
-          → Goes options lexemes (first_state kind environment) items (Ok other) → BlockChecks options.custom kind at state fault
-          → BlockChecks options.custom kind at other found → fault ≡ found
+          → Goes options lexemes (first_state kind environment) items (Ok other) → BlockChecks options.custom options.format kind at state fault
+          → BlockChecks options.custom options.format kind at other found → fault ≡ found
       checks-one state other fault found goes goes_other checks checks_other =
           (block-one kind has state).one fault found checks
-          (subst (λ (s : State). BlockChecks options.custom kind at s found) (sym (state-one state other goes goes_other)) checks_other)
+          (subst (λ (s : State). BlockChecks options.custom options.format kind at s found) (sym (state-one state other goes goes_other)) checks_other)
 
       -- a block has one fault behind its opener, if it has one
       abbrev HasFault : Fault → Type 0

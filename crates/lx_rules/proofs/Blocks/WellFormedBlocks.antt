@@ -7,6 +7,7 @@ use Rattle.lx_base.specs.declared.blocks.BlockKind.{BlockKind}
 use Rattle.lx_base.specs.declared.blocks.BlockKind.TheVariants.{Rules}
 use Rattle.lx_base.specs.declared.places.Pos.{Pos}
 use Rattle.lx_base.specs.declared.settings.Enc.{Enc}
+use Rattle.lx_base.specs.declared.settings.Format.TheVariants.{Three}
 use Rattle.lx_base.specs.declared.settings.Options.{Options}
 use Rattle.lx_exprs.specs.Checks.{tag_names}
 use Rattle.lx_exprs.specs.Defined.{Meaning}
@@ -18,12 +19,13 @@ use Rattle.lx_regex.specs.Pattern as regex
 use Rattle.lx_regex.specs.Pattern.{Pattern}
 use Rattle.lx_regex.specs.declared.rules.Rule.{Rule}
 use Rattle.lx_regex.specs.declared.rules.Tag.{Tag}
-use Rattle.lx_rules.specs.Blocks.{AreScanners, HasRules, IsResolved, IsResolvedAs, MayBeNamed, Resolves, ScannerChecks, StandsUnder, conditions_of, given_names, names_of, of_scanners, of_use, pattern_of, rules_of, scanner_fault, scanners_fault, to_keep}
+use Rattle.lx_rules.specs.Blocks.{AreScanners, HasRules, IsResolved, IsResolvedAs, LabelsDiffer, MayBeNamed, MayBeTag, Resolves, ScannerChecks, StandsUnder, conditions_of, given_names, names_of, of_scanners, of_use, pattern_of, rules_of, scanner_fault, scanners_fault, to_keep}
 use Rattle.lx_rules.specs.Environments.{Environment, config_of}
 use Rattle.lx_rules.specs.FitScanners.{FitsLimits}
+use Rattle.lx_rules.specs.Linked.{AreLinked}
 use Rattle.lx_rules.specs.Items.{State, end_meaning, first_state, is_end}
 use Rattle.lx_rules.specs.Rules.{RuleOf}
-use Rattle.lx_rules.specs.WellFormed.{HaveBareEnds, HaveNames, HaveTagNames, IsBareEnd, IsWellFormed, has_end}
+use Rattle.lx_rules.specs.WellFormed.{HaveBareEnds, HaveNames, HaveTagNames, IsBareEnd, IsLabeledApart, IsWellFormed, NamesNoTable, has_end}
 use Rattle.lx_rules.specs.Within.{IsScannerWithin}
 use Rattle.lx_rules.specs.declared.resolved.Config.{Config}
 use Rattle.lx_rules.specs.declared.resolved.Resolved.{Resolved}
@@ -40,6 +42,7 @@ use Rattle.lx_rules.proofs.CondSets.ListForms.{body_lists}
 use Rattle.lx_rules.proofs.Rules.NamedRules.{AreNamedBut, HasNames, first_named, goes_named, stands_named}
 use Rattle.lx_rules.proofs.Rules.NamedTags.{tokens_of-marked}
 use Rattle.lx_rules.proofs.Blocks.Readiness.{first_sound, first_within, stands_ready}
+use Rattle.lx_rules.proofs.Blocks.OfFormatThree.{each_may_be_named, labels_apart, no_table_tags}
 use Rattle.lx_rules.proofs.ScannerSets.ScannerFits.{resolved_within, scanners_checked}
 use Rattle.lx_rules.proofs.ScannerSets.ScannerLimits.{or_none, scanner_ended}
 use Rattle.lx_rules.proofs.Rules.RuleFits.{IsRuleMeant, IsSlashIn}
@@ -213,8 +216,8 @@ module _ (options : Options) (kind : BlockKind) (at start : Pos) (environment af
   abbrev conds : List (List ℕ)
   conds = conditions_of state.rules
 
-  checked : ScannerChecks options.custom at state None
-  checked = scanner_checks kind has options.custom at state other is.checked
+  checked : ScannerChecks options.custom options.format at state None
+  checked = scanner_checks kind has options.custom options.format at state other is.checked
 
   are : IsResolved options.conds state resolved
   are = scanner_ends kind has options.conds state resolved other is.ends
@@ -239,7 +242,7 @@ module _ (options : Options) (kind : BlockKind) (at start : Pos) (environment af
 
   ends : AllByRecursion (λ (scanner : Scanner). has_end scanner ≡ is_some resolved.config.eof) resolved.scanners
   ends = subst (λ (config : Config). AllByRecursion (λ (scanner : Scanner). has_end scanner ≡ is_some config.eof) resolved.scanners) (sym are.config)
-      (all_end at state options.conds conds resolved.scanners (scanners_checked options.custom at state checked) are.scanners)
+      (all_end at state options.conds conds resolved.scanners (scanners_checked options.custom options.format at state checked) are.scanners)
 
   -- the tags of the rules are named
   named : AllByRecursion HasNames state.rules
@@ -248,12 +251,31 @@ module _ (options : Options) (kind : BlockKind) (at start : Pos) (environment af
       (goes_named options (lexemes_of body tokens) (tokens_of-marked body start tokens tokens_are) (first_state kind environment) state items
       (first_named environment before kind has) is.goes).rules
 
+  -- the tags of the rules may have their names, and the conditions their labels
+  may_be_tags : AllByRecursion (λ (rule : RuleOf). AllByRecursion (MayBeTag options.format (config_of state.settings).names (is_some rule.slash)) rule.meaning.tags) state.rules
+  may_be_tags = (no_clash options.custom options.format at state checked).1
+
+  labels_differ : LabelsDiffer options.format (config_of state.settings).names conds
+  labels_differ = (no_clash options.custom options.format at state checked).2
+
+  belong : AreLinked options.conds resolved
+  belong = block_linked options kind at start environment after body tokens items resolved has stands tokens_are items_are is
+
   tags : AllByRecursion (λ (scanner : Scanner). HaveTagNames resolved.config.names scanner.set.rules) resolved.scanners
   tags =
       let names = (config_of state.settings).names in
       subst (λ (config : Config). AllByRecursion (λ (scanner : Scanner). HaveTagNames config.names scanner.set.rules) resolved.scanners) (sym are.config)
       (all_named at state options.conds names conds resolved.scanners
-      (each_named names state.rules (no_clash options.custom at state checked).1 named) are.scanners)
+      (each_named names state.rules (each_may_be_named options.format names state.rules may_be_tags) named) are.scanners)
+
+  no_table : options.format ≡ Three → AllByRecursion (λ (scanner : Scanner). AllByRecursion NamesNoTable scanner.set.rules) resolved.scanners
+  no_table three =
+      no_table_tags options.conds state.rules options.format (config_of state.settings).names conds resolved.scanners three may_be_tags are.scanners
+
+  labels : options.format ≡ Three → AllByRecursion (IsLabeledApart resolved.config.names) resolved.scanners
+  labels three =
+      subst (λ (config : Config). AllByRecursion (IsLabeledApart config.names) resolved.scanners) (sym are.config)
+      (labels_apart options.conds state.rules (config_of state.settings).names conds resolved.scanners (labels_differ three) belong.identifiers are.scanners)
 
   pub well_formed : IsWellFormed options resolved
   well_formed =
@@ -266,5 +288,7 @@ module _ (options : Options) (kind : BlockKind) (at start : Pos) (environment af
         ends = ends;
         bare = bare;
         tags = tags;
-        linked = block_linked options kind at start environment after body tokens items resolved has stands tokens_are items_are is;
+        no_table = no_table;
+        labels = labels;
+        linked = belong;
       }

@@ -8,6 +8,7 @@ use Rattle.lx_regex.specs.Pattern.{Pattern, patterns_of}
 use Rattle.lx_regex.specs.Term.{Term}
 use Rattle.lx_regex.specs.declared.rules.Rule.{Rule}
 use Rattle.lx_regex.specs.declared.rules.Tag.{Tag}
+use Rattle.lx_base.specs.declared.settings.Format.{Format}
 use Rattle.lx_rules.specs.Blocks.{AreScanners, ClashCheck, ScannerChecks, IsResolved, IsScanner, cond_name, conditions_of, every, given_names, lonely_fault, names_of, not_of_kind, of_kind, own_or, pattern_of, rules_of, rules_under, scanner_fault, scanner_rules, scanners_fault, shared_beside, size_of, targets_fault}
 use Rattle.lx_exprs.specs.Checks.{Check, Finds, Then, is_among}
 use Rattle.lx_exprs.specs.Defined.{term_of_meaning}
@@ -128,14 +129,14 @@ module _ (named : Bool) (at : Pos) (eof : Option ℕ) (rules : List RuleOf) (bui
       let others = scanners_built conds both.1 in (one.0 ∷ others.0, (one.1, others.1))
 
 -- what a block resolves to
-pub block_built : (named custom : Bool) (at : Pos) (state : State) → ScannerChecks custom at state None
+pub block_built : (named custom : Bool) (format : Format) (at : Pos) (state : State) → ScannerChecks custom format at state None
     → AllByRecursion IsRuleBuildable state.rules
     → (resolved : Resolved) × IsResolved named state resolved
-block_built named custom at state checked buildable =
+block_built named custom format at state checked buildable =
     let Scanners : Check = Finds (scanners_fault at (config_of state.settings).eof state.rules (conditions_of state.rules)) in
     let Targets : Check = Finds (targets_fault state.rules (conditions_of state.rules)) in
     let Lonely : Check = Finds (lonely_fault at state.rules (conditions_of state.rules)) in
-    let one = then-none (ClashCheck custom at (config_of state.settings).names state.rules) (Then Lonely (Then Targets Scanners)) checked in
+    let one = then-none (ClashCheck custom format at (config_of state.settings).names state.rules) (Then Lonely (Then Targets Scanners)) checked in
     let two = then-none Lonely (Then Targets Scanners) one.1 in
     let three = then-none Targets Scanners two.1 in
     let built = scanners_built named at (config_of state.settings).eof state.rules buildable (conditions_of state.rules) (sym three.1) in (

@@ -27,6 +27,7 @@ use Rattle.lx_rules.specs.declared.resolved.Act.{Act}
 use Rattle.lx_rules.specs.declared.resolved.Resolved.{Resolved}
 use Rattle.lx_rules.specs.declared.resolved.Scanner.{Scanner}
 use Rattle.lx_rules.specs.Blocks as blocks
+use Rattle.lx_base.specs.declared.settings.Format.{Format}
 use Rattle.lx_rules.specs.Blocks.{AreScanners, BlockChecks, ClashCheck, HasRules, IsResolvedAs, Resolves, ScannerChecks, StandsUnder, add_conds, before_all, behind_block, cond_name, conditions_behind, conditions_of, environment_behind, every, lonely_fault, of_scanners, of_use, rules_of, scanners_fault, target_fault, targets_fault, to_keep}
 use Rattle.lx_rules.specs.Conditions.{AreListed}
 use Rattle.lx_rules.specs.Environments.{Environment, KeptBlock, config_of}
@@ -369,12 +370,12 @@ module _ (resolved : Resolved) (rules : List RuleOf) where
       }
 
 -- the checks of targets find nothing where all checks do
-targets_checked : (custom : Bool) (at : Pos) (state : State) → ScannerChecks custom at state None → targets_fault state.rules (conditions_of state.rules) ≡ None
-targets_checked custom at state checked =
+targets_checked : (custom : Bool) (format : Format) (at : Pos) (state : State) → ScannerChecks custom format at state None → targets_fault state.rules (conditions_of state.rules) ≡ None
+targets_checked custom format at state checked =
     let Scanners : Check = Finds (scanners_fault at (config_of state.settings).eof state.rules (conditions_of state.rules)) in
     let Targets : Check = Finds (targets_fault state.rules (conditions_of state.rules)) in
     let Lonely : Check = Finds (lonely_fault at state.rules (conditions_of state.rules)) in
-    let one = then-none (ClashCheck custom at (config_of state.settings).names state.rules) (Then Lonely (Then Targets Scanners)) checked in
+    let one = then-none (ClashCheck custom format at (config_of state.settings).names state.rules) (Then Lonely (Then Targets Scanners)) checked in
     let two = then-none Lonely (Then Targets Scanners) one.1 in
     sym (then-none Targets Scanners two.1).0
 
@@ -393,12 +394,12 @@ none_linked used resolved scanners acts = record {
 }
 
 kind_linked : (options : Options) (kind : BlockKind) → HasRules kind → (at : Pos) (state : State) (resolved : Resolved) → AllFitConditions options.conds state.rules
-    → AreNumbered 1 state.rules → BlockChecks options.custom kind at state None → IsResolvedAs kind options.conds state resolved → AreLinked options.conds resolved
+    → AreNumbered 1 state.rules → BlockChecks options.custom options.format kind at state None → IsResolvedAs kind options.conds state resolved → AreLinked options.conds resolved
 kind_linked options kind of_scanners at state resolved sound numbers checked is =
-    linked resolved state.rules options.conds sound numbers is.acts is.scanners (targets_checked options.custom at state checked)
+    linked resolved state.rules options.conds sound numbers is.acts is.scanners (targets_checked options.custom options.format at state checked)
 kind_linked options kind to_keep at state resolved sound numbers checked is = none_linked options.conds resolved is.0 is.1
 kind_linked options kind of_use at state resolved sound numbers checked is =
-    linked resolved state.rules options.conds sound numbers is.acts is.scanners (targets_checked options.custom at state checked)
+    linked resolved state.rules options.conds sound numbers is.acts is.scanners (targets_checked options.custom options.format at state checked)
 
 -- ---- the rules block that is kept
 

@@ -22,6 +22,7 @@ use Rattle.lx_regex.specs.declared.rules.Tag.{Tag}
 use Rattle.lx_rules.specs.declared.resolved.Resolved.{Resolved}
 use Rattle.lx_rules.specs.declared.resolved.Scanner.{Scanner}
 use Rattle.lx_rules.specs.Blocks as blocks
+use Rattle.lx_base.specs.declared.settings.Format.{Format}
 use Rattle.lx_rules.specs.Blocks.{AreScanners, BlockChecks, ClashCheck, HasRules, IsResolvedAs, IsScanner, of_scanners, of_use, to_keep, conditions_of, every, lonely_fault, nesting_of, not_of_kind, of_kind, rules_of, scanner_fault, scanners_fault, targets_fault, ScannerChecks}
 use Rattle.lx_exprs.specs.Checks.{Check, Finds, Then}
 use Rattle.lx_exprs.specs.Defined.{Meaning, is_built, whole, whole_room}
@@ -266,25 +267,25 @@ module _ (options : Options) (place : Pos) (state : State) (within : IsStateWith
       (scanner_within eof cond scanner others.0 found.0 are.0 fit.0, scanners_within eof conds scanners others.1 found.1 are.1 fit.1)
 
 -- the checks of the scanners of a block find nothing where all checks do
-pub scanners_checked : (custom : Bool) (place : Pos) (state : State) → ScannerChecks custom place state None
+pub scanners_checked : (custom : Bool) (format : Format) (place : Pos) (state : State) → ScannerChecks custom format place state None
     → scanners_fault place (config_of state.settings).eof state.rules (conditions_of state.rules) ≡ None
-scanners_checked custom place state checked =
+scanners_checked custom format place state checked =
     let Scanners : Check = Finds (scanners_fault place (config_of state.settings).eof state.rules (conditions_of state.rules)) in
     let Targets : Check = Finds (targets_fault state.rules (conditions_of state.rules)) in
     let Lonely : Check = Finds (lonely_fault place state.rules (conditions_of state.rules)) in
-    let one = then-none (ClashCheck custom place (config_of state.settings).names state.rules) (Then Lonely (Then Targets Scanners)) checked in
+    let one = then-none (ClashCheck custom format place (config_of state.settings).names state.rules) (Then Lonely (Then Targets Scanners)) checked in
     let two = then-none Lonely (Then Targets Scanners) one.1 in
     sym (then-none Targets Scanners two.1).1
 
 -- the scanners of a block are as is asked where what is known before its items is
 pub resolved_within :
     (options : Options) (kind : BlockKind) → HasRules kind → (place : Pos) (state : State) (resolved : Resolved) → IsStateWithin options state
-    → AllByRecursion (λ (rule : RuleOf). AreConds rule.conds) state.rules → BlockChecks options.custom kind place state None → IsResolvedAs kind options.conds state resolved → FitsLimits resolved
+    → AllByRecursion (λ (rule : RuleOf). AreConds rule.conds) state.rules → BlockChecks options.custom options.format kind place state None → IsResolvedAs kind options.conds state resolved → FitsLimits resolved
     → AllByRecursion (IsScannerWithin options.enc) resolved.scanners
 resolved_within options kind to_keep place state resolved within conds checked is fine = subst (AllByRecursion (IsScannerWithin options.enc)) (sym is.0) tt
 resolved_within options kind of_scanners place state resolved within conds checked is fine =
     scanners_within options place state within conds options.conds (length resolved.acts) (config_of state.settings).eof (conditions_of state.rules) resolved.scanners (conditions_of-others state.rules)
-    (scanners_checked options.custom place state checked) is.scanners (recursion_from_All (IsFit (length resolved.acts)) resolved.scanners fine.scanners)
+    (scanners_checked options.custom options.format place state checked) is.scanners (recursion_from_All (IsFit (length resolved.acts)) resolved.scanners fine.scanners)
 resolved_within options kind of_use place state resolved within conds checked is fine =
     scanners_within options place state within conds options.conds (length resolved.acts) (config_of state.settings).eof (conditions_of state.rules) resolved.scanners (conditions_of-others state.rules)
-    (scanners_checked options.custom place state checked) is.scanners (recursion_from_All (IsFit (length resolved.acts)) resolved.scanners fine.scanners)
+    (scanners_checked options.custom options.format place state checked) is.scanners (recursion_from_All (IsFit (length resolved.acts)) resolved.scanners fine.scanners)

@@ -18,6 +18,7 @@ use Rattle.lx_exprs.specs.Checks.{Check, Finds, Then}
 use Rattle.lx_forms.specs.Lexemes.{Lexeme, lexemes_of, nth_lexeme}
 use Rattle.lx_parse.specs.declared.items.Item.{Item}
 use Rattle.lx_parse.specs.declared.items.Item.TheVariants.{Define, Configure, Rule, Text}
+use Rattle.lx_base.specs.declared.settings.Format.{Format}
 use Rattle.lx_rules.specs.Blocks.{BlockChecks, ClashCheck, HasRules, IsResolvedAs, NoClash, Resolves, ScannerChecks, SpellingsDiffer, StandsUnder, before_all, behind_block, conditions_of, environment_behind, lonely_fault, of_scanners, of_use, scanners_fault, targets_fault, to_keep}
 use Rattle.lx_rules.specs.Configurations.{config_kind, eof_number, eof_of, setting_in, said, spelling_of, switch_of}
 use Rattle.lx_rules.specs.Environments.{Environment, KeptBlock, Settings, config_of, first_environment, names_over, settings_over, spelled, with_name, with_setting}
@@ -321,21 +322,21 @@ config-allowed settings are =
 -- ---- the checks behind the items
 
 -- no name clashes
-pub no_clash : (custom : Bool) (at : Pos) (state : State) → ScannerChecks custom at state None → NoClash custom (config_of state.settings).names state.rules
-no_clash custom at state checked =
+pub no_clash : (custom : Bool) (format : Format) (at : Pos) (state : State) → ScannerChecks custom format at state None → NoClash custom format (config_of state.settings).names state.rules
+no_clash custom format at state checked =
     let Scanners : Check = Finds (scanners_fault at (config_of state.settings).eof state.rules (conditions_of state.rules)) in
     let Targets : Check = Finds (targets_fault state.rules (conditions_of state.rules)) in
     let Lonely : Check = Finds (lonely_fault at state.rules (conditions_of state.rules)) in
-    elim (then-none (ClashCheck custom at (config_of state.settings).names state.rules) (Then Lonely (Then Targets Scanners)) checked).0 [
+    elim (then-none (ClashCheck custom format at (config_of state.settings).names state.rules) (Then Lonely (Then Targets Scanners)) checked).0 [
       | inl free ↦ free.0
       | inr clash ↦ absurd (let h = clash.1 in cc)
     ]
 
-pub scanner_checks : (kind : BlockKind) → HasRules kind → (custom : Bool) (at : Pos) (state : State) → (kind ≡ block.Rules → ⊥)
-    → BlockChecks custom kind at state None → ScannerChecks custom at state None
-scanner_checks kind of_scanners custom at state other checked = checked
-scanner_checks kind to_keep custom at state other checked = absurd (other refl)
-scanner_checks kind of_use custom at state other checked = checked
+pub scanner_checks : (kind : BlockKind) → HasRules kind → (custom : Bool) (format : Format) (at : Pos) (state : State) → (kind ≡ block.Rules → ⊥)
+    → BlockChecks custom format kind at state None → ScannerChecks custom format at state None
+scanner_checks kind of_scanners custom format at state other checked = checked
+scanner_checks kind to_keep custom format at state other checked = absurd (other refl)
+scanner_checks kind of_use custom format at state other checked = checked
 
 -- ---- blocks
 
@@ -383,7 +384,7 @@ stands-settings options environment (behind_block {environment = before} stands 
 -- the spellings of a block with scanners differ
 pub resolved-differ : (options : Options) (kind : BlockKind) → HasRules kind → (at : Pos) (environment after : Environment) (lexemes : List Lexeme) (items : List Item)
     (resolved : Resolved) → (kind ≡ block.Rules → ⊥) → Resolves options kind at environment lexemes items after resolved
-    → SpellingsDiffer options.custom resolved.config.names
+    → SpellingsDiffer options.custom options.format resolved.config.names
 resolved-differ options kind has at environment after lexemes items resolved other is =
-    subst (λ (config : Config). SpellingsDiffer options.custom config.names) (sym (resolved-config kind has options.conds is.state resolved is.ends))
-    (no_clash options.custom at is.state (scanner_checks kind has options.custom at is.state other is.checked)).0
+    subst (λ (config : Config). SpellingsDiffer options.custom options.format config.names) (sym (resolved-config kind has options.conds is.state resolved is.ends))
+    (no_clash options.custom options.format at is.state (scanner_checks kind has options.custom options.format at is.state other is.checked)).0

@@ -103,7 +103,7 @@ returns-clause-fit c =
     let before = c.in_ok-known.ensures.before in
     let is_before = subst (λ before. IsBefore c.args.kind environment before c.in_ok-known.known.is_use) (sym before.0)
     (subst (λ is_use. IsBefore c.args.kind environment c.in_ok-opened.opened.before is_use) (sym before.1) opened.before) in
-    if_ok_so (IsFinished options c.args.kind c.args.at environment goes.0) (λ answer. FitsLimits answer.1) (StopsAt (BlockChecks options.custom c.args.kind c.args.at goes.0)) c.finish.result
+    if_ok_so (IsFinished options c.args.kind c.args.at environment goes.0) (λ answer. FitsLimits answer.1) (StopsAt (BlockChecks options.custom options.format c.args.kind c.args.at goes.0)) c.finish.result
     (c.finish.ensures goes.0 environment goes.2 is_before) (λ answer is. is.3)
 
 pub returns-clause-well_formed : goal.returns-clause-well_formed
@@ -125,7 +125,7 @@ returns-clause-well_formed c = λ other environment represents stands.
     subst (λ tokens. Goes options (lexemes_of body tokens) first items (Ok goes.0)) c.as_slice.ensures
     (subst (λ l. Goes options (lexemes_of body c.as_slice.result.now) first l (Ok goes.0)) c.as_slice-2.ensures goes.1) in
     if_ok_so (IsFinished options kind c.args.at environment goes.0) (λ answer. IsWellFormed options answer.1)
-    (StopsAt (BlockChecks options.custom kind c.args.at goes.0)) c.finish.result (c.finish.ensures goes.0 environment goes.2 is_before)
+    (StopsAt (BlockChecks options.custom options.format kind c.args.at goes.0)) c.finish.result (c.finish.ensures goes.0 environment goes.2 is_before)
     (λ answer is.
     well_formed options kind c.args.at start.0 environment (environment_behind kind environment goes.0) body tokens items answer.1 c.requires.kind other stands
     c.requires.size start.1 c.requires.tree
@@ -148,7 +148,7 @@ returns-clause-resolves c = λ environment represents.
     (subst (λ l. Goes options (lexemes_of c.args.body.now c.as_slice.result.now) first l (Ok goes.0)) c.as_slice-2.ensures goes.1) in
     match_so (IsFinished options kind c.args.at environment goes.0)
     (λ answer. (after : Environment) × Represents answer.0 after × Resolves options kind c.args.at environment lexemes items after answer.1)
-    (StopsAt (BlockChecks options.custom kind c.args.at goes.0)) (StopsWith options kind c.args.at environment lexemes items) c.finish.result
+    (StopsAt (BlockChecks options.custom options.format kind c.args.at goes.0)) (StopsWith options kind c.args.at environment lexemes items) c.finish.result
     (c.finish.ensures goes.0 environment goes.2 is_before)
     (λ answer is. (
       environment_behind kind environment goes.0,
