@@ -1,6 +1,8 @@
 -- What a block resolves to fits a piece: its scanners with their automata, its conditions, and what it is beside them.
 use Rattle.std.specs.Prelude.{◌≡◌, ◌≢◌, ◌⊎◌, ℕ, zero, suc, ◌*◌, ◌<◌, ◌≤◌, ◌||◌, Bool, true, false, List, [], ◌∷◌, map, length, Option, Some, None, All, Contains, IfSome, IsSome, is_some, refl, slice_index_or}
 use Rattle.std.proofs.Common.{inl, inr, sym, ap, ◌∙◌, subst, arith}
+use Rattle.std.proofs.lemmas.Bool.{false≢true}
+use Rattle.lx_ccode.specs.Heads.{is_format_three}
 use Rattle.std.specs.List.{AllByRecursion, list_any}
 use Rattle.lx_auto.specs.declared.automaton.Auto.{Auto}
 use Rattle.lx_auto.specs.declared.automaton.Edge.{Edge}
@@ -217,9 +219,9 @@ is_label (Some cond) is = is
 
 -- a scanner with its automaton fits
 scanner_fits : (enc : Enc) (form : Form) (conds : List (List ℕ)) (marks : Marks) (acts : List Act) (scanner : Scanner) (auto : Auto) (list : List ℕ)
-    → form.enc ≡ enc → FitsRules enc (patterns_of scanner.set.rules) auto → AreChecks auto list
+    → form.enc ≡ enc → is_format_three form.format ≡ false → FitsRules enc (patterns_of scanner.set.rules) auto → AreChecks auto list
     → IsKnown enc form.names conds form.eof marks acts scanner → IsFitScanner form conds (source_of enc marks acts scanner auto list)
-scanner_fits enc form conds marks acts scanner auto list same fits checks known =
+scanner_fits enc form conds marks acts scanner auto list same two fits checks known =
     let endings : ℕ → Ending = endings_by marks acts scanner.set.rules in
     record {
       label = is_label scanner.cond known.label;
@@ -228,6 +230,7 @@ scanner_fits enc form conds marks acts scanner auto list same fits checks known 
       agreed = fits.agreed;
       accepts = accepts_fit form.names conds endings enc scanner.set.rules auto.states known.ends fits.rules;
       checks = checks;
+      tags = λ three. absurd (false≢true (sym two ∙ three));
       end = end_fits form.names conds endings enc form (source_of enc marks acts scanner auto list) scanner.set.rules refl refl known.ends known.bare
           known.limits.numbers fits.rules known.paired;
     }
@@ -260,7 +263,7 @@ module _ (options : Options) (resolved : Resolved) (autos : List Auto) (checks :
             (each_source options.enc marks resolved.acts (IsFitScanner form (conds_of sources))
             (IsKnown options.enc resolved.config.names (conds_of sources) resolved.config.eof marks resolved.acts)
             (λ scanner auto list fits checked known.
-            scanner_fits options.enc form (conds_of sources) marks resolved.acts scanner auto list refl fits checked known)
+            scanner_fits options.enc form (conds_of sources) marks resolved.acts scanner auto list refl refl fits checked known)
             resolved.scanners autos checks are scanners_known);
         conds = conditions_fit options.enc marks resolved.acts options.conds resolved.scanners autos checks are some formed.linked.named formed.linked.different;
         different = different_sources options.enc marks resolved.acts resolved.scanners autos checks are formed.linked.different;
@@ -269,5 +272,7 @@ module _ (options : Options) (resolved : Resolved) (autos : List Auto) (checks :
         names = formed.spellings;
         names_differ = formed.differ.0;
         no_primitive = formed.differ.1;
+        no_table = λ three. absurd cc;
+        no_block_label = λ three. absurd cc;
         line = told;
       }

@@ -88,7 +88,7 @@ module _ (policy : Policy) (form : Form) (names : Spellings) (conds : List (List
       → IsRightInMode policy (mode_of form.eof form.fill) cond form.enc (patterns_of scanner.set.rules) (endings_by marks acts scanner.set.rules) piece
 
   abbrev Stands : Source → Type 0
-  Stands scanner = IsScannerIn (mode_of form.eof form.fill) form.enc (given_of form scanner) scanner.checks piece
+  Stands scanner = IsScannerIn (mode_of form.eof form.fill) form.enc (given_of form piece.table scanner) scanner.checks piece
 
   pub scanners_right : (scanners : List Scanner) (autos : List Auto) (checks : List (List ℕ)) → AreAutomataUnder policy form.enc scanners autos checks
       → AllByRecursion (IsKnown form.enc names conds eof marks acts) scanners

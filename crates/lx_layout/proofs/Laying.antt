@@ -1,7 +1,6 @@
 -- Layouts with a supply of units, as they are laid block by block.
 pub mod FallRounds
 pub mod HaltMarks
-pub mod ApartOrder
 pub mod TreeWays
 pub mod Planned
 pub mod FirstAccepts

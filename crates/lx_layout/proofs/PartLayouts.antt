@@ -24,5 +24,7 @@ pub mod PeekedLayouts
 pub mod LastBlocks
 pub mod AskingParts
 pub mod ShortNumbers
+pub mod TestStatements
 pub mod OfFormatTwo
+pub mod AskedSets
 pub mod ValidParts

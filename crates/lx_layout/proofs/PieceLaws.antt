@@ -9,5 +9,7 @@ pub mod PartActions
 pub mod PartEntries
 pub mod ScannerEntries
 pub mod ShortHistories
+pub mod TableTags
+pub mod TableSets
 pub mod StoredRefills
 pub mod WholePieces

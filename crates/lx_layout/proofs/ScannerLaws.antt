@@ -5,6 +5,7 @@ pub mod InnerCodes
 pub mod EndCodes
 pub mod RulePlaces
 pub mod EndedLayouts
+pub mod TestSorts
 pub mod FewSteps
 pub mod CalmCodes
 pub mod CalmEnds

@@ -5,6 +5,7 @@ pub mod Lengths
 pub mod Places
 pub mod StatesServe
 pub mod LayoutServes
+pub mod LeadingTrees
 pub mod ReaderWays
 pub mod FirstsFrom
 pub mod BareUnits

@@ -17,7 +17,7 @@ use Rattle.lx_layout.specs.Plans.{unlabelled}
 use Rattle.lx_layout.specs.RuleEnds.{HasToldEnd, endings_of}
 use Rattle.lx_layout.specs.SuppliedLayout.{end_rule_part, entry_part, fallback_part, first_restore, rule_block, states_part}
 use Rattle.lx_layout.specs.Supplies.{Reader, Supply}
-use Rattle.lx_layout.specs.TestTrees.{TestTree}
+use Rattle.lx_dispatch.specs.TestTrees.{TestTree}
 use Rattle.lx_layout.specs.declared.copies.Front.{Front}
 use Rattle.lx_layout.specs.declared.demands.PartInput.{PartInput}
 use Rattle.lx_layout.specs.declared.rule_ends.RuleEnd.{RuleEnd}

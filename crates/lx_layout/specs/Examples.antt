@@ -14,8 +14,8 @@ use Rattle.lx_layout.specs.Layout.{class_block}
 use Rattle.lx_layout.specs.Starts.{run_with}
 use Rattle.lx_layout.specs.SuppliedLayout.{EachReader, reader_blocks, supplied_layout, with_blocks}
 use Rattle.lx_layout.specs.Supplies.{Reader, entry, plain_supply, state}
-use Rattle.lx_layout.specs.TestTrees.{IsTreeOf, TestTree, at_most, fork, leaf, test}
-use Rattle.lx_layout.specs.TransitionClasses.{Split}
+use Rattle.lx_dispatch.specs.TestTrees.{IsTreeOf, TestTree, at_most, fork, leaf, test}
+use Rattle.lx_dispatch.specs.TransitionClasses.{Split}
 
 -- each rule has the tag `t`, and the action `a`
 abbrev pub tagged : ℕ → Ending

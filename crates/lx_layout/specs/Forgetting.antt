@@ -1,6 +1,6 @@
 -- What a match kept is forgotten before a jump to a condition, where some statement of the piece tests it: the match that begins there has
 -- kept nothing yet.
-use Rattle.std.specs.Prelude.{◌≡◌, ℕ, zero, suc, Bool, true, false, List, [], ◌∷◌, map, if◌then◌else◌}
+use Rattle.std.specs.Prelude.{◌≡◌, ℕ, zero, Bool, true, false, List, [], ◌∷◌, map, if◌then◌else◌}
 use Rattle.std.specs.List.{AllByRecursion, list_any}
 use Rattle.lx_ccode.specs.Statements.{all_statements}
 use Rattle.lx_ccode.specs.declared.piece.CodeBlock.{CodeBlock}

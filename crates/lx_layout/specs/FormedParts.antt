@@ -4,15 +4,17 @@ use Rattle.std.specs.List.{AllByRecursion}
 use Rattle.lx_auto.specs.Automaton.{IsAuto}
 use Rattle.lx_auto.specs.declared.automaton.Edge.{Edge}
 use Rattle.lx_auto.specs.declared.automaton.State.{State}
+use Rattle.lx_dispatch.specs.Dispatch.{IsTable}
 use Rattle.lx_layout.specs.Parts.{IsPartOf, Part, given_asked}
 
--- The marks and the trees of a scanner are right for units up to a greatest one, its automaton is well formed and reads no other units, and a
--- rule stands at the end of its input only where a unit does.
+-- The marks and the trees of a scanner are right for units up to a greatest one, its automaton is well formed and reads no other units, a rule
+-- stands at the end of its input only where a unit does, and the sets that are tested stand in a table.
 pub record IsFormed (greatest : ℕ) (part : Part) : Type 0 where
   pub chosen : IsPartOf greatest part.given part
   pub auto : IsAuto part.given.auto
   pub units : All (λ (state : State). All (λ (edge : Edge). edge.hi ≤ greatest) state.edges) part.given.auto.states
   pub ends : IsSome part.given.end_rule → IsSome part.given.demand.eof
+  pub table : IsTable part.given.demand.table
 
 abbrev pub AreFormed : (greatest : ℕ) → List Part → Type 0
 AreFormed greatest parts = AllByRecursion (IsFormed greatest) parts

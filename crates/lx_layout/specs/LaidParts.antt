@@ -5,7 +5,6 @@ use Rattle.lx_auto.specs.Automaton.{IsAuto, state_of}
 use Rattle.lx_auto.specs.declared.automaton.Accept.{Accept}
 use Rattle.lx_auto.specs.declared.automaton.Edge.{Edge}
 use Rattle.lx_auto.specs.declared.automaton.State.{State}
-use Rattle.lx_ccode.specs.Machine.{is_among}
 use Rattle.lx_ccode.specs.declared.piece.Stmt.{Stmt}
 use Rattle.lx_layout.specs.Halting.{AreHalting, Halting, ended_accepts, is_entered, saved_accepts}
 use Rattle.lx_layout.specs.Layout.{end_block}
@@ -16,10 +15,12 @@ use Rattle.lx_layout.specs.Plans.{AreIndexed, seen_accepts}
 use Rattle.lx_layout.specs.RuleEnds.{HasEnd, HasToldEnd, endings_of}
 use Rattle.lx_layout.specs.SuppliedLayout as layouts
 use Rattle.lx_layout.specs.Supplies.{Reader, Supply, entry, state}
-use Rattle.lx_layout.specs.TestTrees.{IsTreeOf, TestTree, leaf}
-use Rattle.lx_layout.specs.TransitionClasses.{transition_classes}
-use Rattle.lx_layout.specs.UnitApart.{reader_split}
-use Rattle.lx_layout.specs.Views.{class_list, seen_classes, seen_tree}
+use Rattle.lx_base.specs.declared.settings.Format.{Format}
+use Rattle.lx_dispatch.specs.Dispatch.{AreTestsOf}
+use Rattle.lx_dispatch.specs.TestTrees.{TestTree, leaf}
+use Rattle.lx_dispatch.specs.TransitionClasses.{transition_classes}
+use Rattle.lx_dispatch.specs.UnitApart.{reader_split}
+use Rattle.lx_dispatch.specs.Views.{class_list, seen_classes, seen_tree}
 use Rattle.lx_layout.specs.declared.demands.Demand.{Demand}
 use Rattle.lx_layout.specs.declared.demands.PartInput.{PartInput}
 use Rattle.lx_layout.specs.declared.part_ends.PartEnds.{PartEnds}
@@ -33,8 +34,14 @@ use Rattle.lx_layout.specs.declared.state_plans.StatePlan.{StatePlan}
 -- ---- what is given
 
 abbrev pub seen_demand : Demand → parts.Demand
-seen_demand demand =
-    record { eof = demand.eof; tries = demand.tries; check = checked_by (option_copied demand.checks); stores = demand.stores; among = is_among [] }
+seen_demand demand = record {
+  eof = demand.eof;
+  tries = demand.tries;
+  check = checked_by (option_copied demand.checks);
+  stores = demand.stores;
+  format = demand.asking.format;
+  table = demand.asking.sets.now.table.items;
+}
 
 abbrev pub seen_given : PartInput → Given
 seen_given input =
@@ -52,12 +59,12 @@ abbrev pub planned_states : List StatePlan → List State
 planned_states plans = map (λ plan. plan.state.now) plans
 
 -- the transition classes are those of the state, and the tests are a tree of its tests
-pub record IsStatePlan (eof : Option ℕ) (greatest : ℕ) (plan : StatePlan) : Type 0 where
+pub record IsStatePlan (format : Format) (table : List ℕ) (eof : Option ℕ) (greatest : ℕ) (plan : StatePlan) : Type 0 where
   pub classes : seen_classes (class_list plan.classes) ≡ transition_classes plan.state.now.edges
-  pub tests : IsTreeOf (reader_split eof greatest plan.state.now.edges) (seen_tree plan.tests)
+  pub tests : AreTestsOf format table eof greatest (reader_split eof greatest plan.state.now.edges) (seen_tree plan.tests)
 
-abbrev pub AreStatePlans : (eof : Option ℕ) → (greatest : ℕ) → List StatePlan → Type 0
-AreStatePlans eof greatest plans = AllByRecursion (IsStatePlan eof greatest) plans
+abbrev pub AreStatePlans : Format → (table : List ℕ) → (eof : Option ℕ) → (greatest : ℕ) → List StatePlan → Type 0
+AreStatePlans format table eof greatest plans = AllByRecursion (IsStatePlan format table eof greatest) plans
 
 -- the entry reads as state 0
 abbrev pub reader_number : Reader → ℕ
@@ -84,7 +91,8 @@ given_at plans number = state_of plans.input.auto.now.states number
 pub record ArePlans (plans : PartPlans) : Type 0 where
   pub formed : IsAuto plans.input.auto.now
   pub states : planned_states plans.states.items ≡ plans.input.auto.now.states
-  pub planned : AreStatePlans plans.input.demand.eof plans.input.greatest plans.states.items
+  pub planned : AreStatePlans plans.input.demand.asking.format plans.input.demand.asking.sets.now.table.items plans.input.demand.eof plans.input.greatest
+      plans.states.items
   pub marked : AreHalting plans.input.demand.eof plans.input.end_rule plans.input.greatest plans.input.auto.now (seen_marks plans.marks)
   pub entered : plans.entered ≡ is_entered plans.input.end_rule plans.input.auto.now 0
 

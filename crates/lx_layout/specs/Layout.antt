@@ -7,7 +7,7 @@ use Rattle.lx_ccode.specs.declared.piece.Stmt.{Stmt}
 use Rattle.lx_ccode.specs.declared.piece.Stmt.TheVariants.{Goto}
 use Rattle.lx_layout.specs.Codes.{Choice, accept_code, restore_code}
 use Rattle.lx_layout.specs.Endings.{Ending, ending_code}
-use Rattle.lx_layout.specs.TestTrees.{TestTree, cases_by, fork, leaf, switch, test}
+use Rattle.lx_dispatch.specs.TestTrees.{TestTree, cases_by, fork, leaf, switch, test}
 
 -- ---- the rules by which states accept
 

@@ -36,11 +36,8 @@ pub mod SuppliedLayout
 pub mod Supplies
 pub mod Switches
 pub mod TestRuns
-pub mod TestTrees
+pub mod TreeCodes
 pub mod Told
-pub mod TransitionClasses
-pub mod UnitApart
-pub mod Views
 pub mod Ways
 pub mod Writable
 pub mod Written

@@ -1,5 +1,5 @@
 -- Scanners whose automata are that of the first one but for the numbers of rules.
-use Rattle.std.specs.Prelude.{◌≡◌, List, [], ◌∷◌, Bool, Option, Some, None, IfSome, is_some}
+use Rattle.std.specs.Prelude.{◌≡◌, ℕ, List, [], ◌∷◌, Bool, Option, Some, None, IfSome, is_some}
 use Rattle.std.specs.List.{AllByRecursion}
 use Rattle.lx_base.specs.Spelling.{greatest_unit}
 use Rattle.lx_layout.specs.Copies.{IsFront}
@@ -24,14 +24,14 @@ AreLike [] = Unit {0}
 AreLike (first ∷ scanners) =
     (first.by ≡ None) × AllByRecursion (λ (scanner : ScannerInput). IfSome scanner.by (λ by. IsLike first scanner)) scanners
 
--- the front of a scanner in a piece
-pub record IsFrontOf (form : Form) (first : ScannerInput) (front : Front) : Type 0 where
+-- the front of a scanner in a piece with a table of sets
+pub record IsFrontOf (form : Form) (table : List ℕ) (first : ScannerInput) (front : Front) : Type 0 where
   pub own : first.by ≡ None
   pub laid : IsFront front
-  pub given : seen_given front.ends.plans.input ≡ given_of form (seen_source first)
+  pub given : seen_given front.ends.plans.input ≡ given_of form table (seen_source first)
   pub greatest : front.ends.plans.input.greatest ≡ greatest_unit form.enc
 
 -- the front is that of some scanner, and another one is like that
-abbrev pub HasFront : Form → Option Front → ScannerInput → Type 0
-HasFront form None scanner = ⊥
-HasFront form (Some front) scanner = (first : ScannerInput) × IsFrontOf form first front × IsLike first scanner
+abbrev pub HasFront : Form → (table : List ℕ) → Option Front → ScannerInput → Type 0
+HasFront form table None scanner = ⊥
+HasFront form table (Some front) scanner = (first : ScannerInput) × IsFrontOf form table first front × IsLike first scanner

@@ -2,8 +2,8 @@
 use Rattle.std.specs.Prelude.{◌≡◌, ◌⊎◌, ℕ, ◌+◌, Bool, false, List, [], ◌∷◌, length, Option, Some, None, IsSome}
 use Rattle.std.specs.List.{AllByRecursion}
 use Rattle.lx_base.specs.declared.settings.Enc.{Enc}
-use Rattle.lx_base.specs.declared.settings.Format.TheVariants.{Two}
-use Rattle.lx_ccode.specs.Counts.{mregs_of, regs_of, state_count}
+use Rattle.lx_base.specs.declared.settings.Format.{Format}
+use Rattle.lx_ccode.specs.Counts.{mregs_of, regs_of, state_count, table_size}
 use Rattle.lx_ccode.specs.States.{states_from}
 use Rattle.lx_ccode.specs.declared.piece.CodeBlock.{CodeBlock}
 use Rattle.lx_ccode.specs.declared.piece.CondCase.{CondCase}
@@ -33,9 +33,9 @@ cond_cases begin first (part ∷ parts) =
     with_case part.given.cond begin (cond_cases (begin + length (part_codes part begin first)) (first + given_asked part.given) parts)
 
 -- what a piece of these blocks tells of itself
-abbrev pub head_with : (custom : Bool) → Enc → Mode → List CodeBlock → Head
-head_with custom enc mode blocks = record {
-  format = Two;
+abbrev pub head_with : Format → (custom : Bool) → Enc → Mode → List CodeBlock → Head
+head_with format custom enc mode blocks = record {
+  format = format;
   custom = custom;
   enc = enc;
   mode = mode;
@@ -45,12 +45,15 @@ head_with custom enc mode blocks = record {
 }
 
 -- The scanners stand one behind another in the piece, which tells their mode, has one unit at the end for all of them, or none, and
--- switches over their conditions. It has the switch over what they store, or none, and no table of sets.
-pub record IsPieceOf (custom : Bool) (enc : Enc) (mode : Mode) (first : ℕ) (parts : List Part) (piece : Piece) : Type 0 where
+-- switches over their conditions. It has the switch over what they store, or none, and a table of their sets, of the size that its statements
+-- ask for.
+pub record IsPieceOf (format : Format) (custom : Bool) (enc : Enc) (mode : Mode) (first : ℕ) (parts : List Part) (piece : Piece) : Type 0 where
   pub blocks : piece.blocks ≡ parts_blocks 0 first parts
-  pub head : piece.head ≡ Some (head_with custom enc mode piece.blocks)
+  pub head : piece.head ≡ Some (head_with format custom enc mode piece.blocks)
   pub unit : piece.unit ≡ unit_size enc
   pub eof : AllByRecursion (λ (part : Part). part.given.demand.eof ≡ piece.eof) parts
   pub states : (piece.states ≡ None) ⊎ (piece.states ≡ Some (states_from 0 piece.blocks))
   pub conds : piece.conds ≡ cond_cases 0 first parts
-  pub table : piece.table ≡ []
+  pub formats : AllByRecursion (λ (part : Part). part.given.demand.format ≡ format) parts
+  pub tables : AllByRecursion (λ (part : Part). part.given.demand.table ≡ piece.table) parts
+  pub table : length piece.table ≡ table_size piece.blocks

@@ -10,7 +10,10 @@ use Rattle.lx_layout.specs.Halting.{AreHalting, Halting, is_entered}
 use Rattle.lx_layout.specs.Plans.{unlabelled}
 use Rattle.lx_layout.specs.SuppliedLayout.{EachReader, supplied_layout}
 use Rattle.lx_layout.specs.Supplies.{Reader, Supply, entry, state}
-use Rattle.lx_layout.specs.TestTrees.{IsTreeOf, TestTree}
+use Rattle.lx_base.specs.declared.settings.Format.{Format}
+use Rattle.lx_ccode.specs.Machine.{is_among}
+use Rattle.lx_dispatch.specs.Dispatch.{AreTestsOf}
+use Rattle.lx_dispatch.specs.TestTrees.{TestTree}
 
 -- How a scanner gets its units, before the states that it stores have numbers.
 pub record Demand : Type 0 where
@@ -22,8 +25,9 @@ pub record Demand : Type 0 where
   pub check : (number : ℕ) → ℕ
   -- whether what reads is stored before a refill
   pub stores : Bool
-  -- what is in the sets that are tested
-  pub among : (set unit : ℕ) → Bool
+  -- the format of the text, and the table of the sets that are tested
+  pub format : Format
+  pub table : List ℕ
 
 -- The checks of a list, where a state has the number 0 if it has none. Where the start has none the scanner reads no unit, and its other
 -- states, to which no match comes, check for one unit each.
@@ -78,7 +82,7 @@ module _ (demand : Demand) (end_rule : Option ℕ) (auto : Auto) where
 
   abbrev pub supply_from : (first : ℕ) → Supply
   supply_from first =
-      record { eof = demand.eof; tries = demand.tries; check = demand.check; stored = stored_from demand.stores first; among = demand.among }
+      record { eof = demand.eof; tries = demand.tries; check = demand.check; stored = stored_from demand.stores first; among = is_among demand.table }
 
 -- ---- scanners of a piece
 
@@ -98,11 +102,11 @@ pub record Part : Type 0 where
   pub halting : Halting
   pub trees : Reader → TestTree (Option ℕ)
 
--- for units up to a greatest one the marks are right, and the trees are within their bound
+-- for units up to a greatest one the marks are right, and the trees lead as the edges do, and are within their bound
 pub record IsPartOf (greatest : ℕ) (given : Given) (part : Part) : Type 0 where
   pub is : part.given ≡ given
   pub marked : AreHalting given.demand.eof given.end_rule greatest given.auto part.halting
-  pub trees : EachReader IsTreeOf given.demand.eof greatest part.trees given.auto
+  pub trees : EachReader (AreTestsOf given.demand.format given.demand.table given.demand.eof greatest) given.demand.eof greatest part.trees given.auto
 
 abbrev pub given_supply : Given → (first : ℕ) → Supply
 given_supply given first = supply_from given.demand given.end_rule given.auto first

@@ -9,6 +9,7 @@ use Rattle.lx_renumber.specs.Renumbered.{based}
 abbrev pub seen_form : PieceForm → Form
 seen_form form = record {
   number = form.number;
+  format = form.format;
   names = form.names;
   enc = form.enc;
   custom = form.custom;

@@ -6,16 +6,18 @@ use Rattle.lx_auto.specs.declared.automaton.Accept.{Accept}
 use Rattle.lx_auto.specs.declared.automaton.Auto.{Auto}
 use Rattle.lx_auto.specs.declared.automaton.Edge.{Edge}
 use Rattle.lx_auto.specs.declared.automaton.State.{State}
-use Rattle.lx_base.specs.Names.{AreAllowed, DoNotClash, Spellings, name_primitives}
+use Rattle.lx_base.specs.Names.{AreAllowed, DoNotClash, Spellings, begins_table, name_primitives, name_table}
 use Rattle.lx_base.specs.Spelling.{greatest_unit}
 use Rattle.lx_base.specs.declared.settings.Enc.{Enc}
+use Rattle.lx_base.specs.declared.settings.Format.{Format}
 use Rattle.lx_base.specs.declared.settings.Format.TheVariants.{Two}
 use Rattle.lx_ccode.specs.Counts.{mregs_of, regs_of, state_count}
 use Rattle.lx_ccode.specs.Runs.{entry_block}
 use Rattle.lx_ccode.specs.States.{states_from}
 use Rattle.lx_ccode.specs.Statements.{all_statements, has_register_one, is_refill, is_state}
 use Rattle.lx_ccode.specs.Validity.{IsLabel, IsLine, IsShort, IsValid}
-use Rattle.lx_ccode.specs.Machine.{is_among}
+use Rattle.lx_ccode.specs.Heads.{is_format_three}
+use Rattle.lx_ccode.specs.Labels.{is_like_block}
 use Rattle.lx_ccode.specs.declared.piece.CodeBlock.{CodeBlock}
 use Rattle.lx_ccode.specs.declared.piece.Head.{Head}
 use Rattle.lx_ccode.specs.declared.piece.LineMark.{LineMark}
@@ -46,6 +48,8 @@ use Rattle.lx_layout.specs.Writable.{CanBeWritten}
 pub record Form : Type 0 where
   -- the number in its output
   pub number : ℕ
+  -- the format of its text
+  pub format : Format
   pub names : Spellings
   pub enc : Enc
   -- whether it reads its input by primitives of the user's
@@ -83,13 +87,15 @@ counted None true checks = Some checks
 counted None false checks = None
 counted (Some eof) fill checks = None
 
-abbrev pub demand_of : Form → (checks : List ℕ) → Demand
-demand_of form checks = record {
+-- with a table of sets that are tested
+abbrev pub demand_of : Form → (table : List ℕ) → (checks : List ℕ) → Demand
+demand_of form table checks = record {
   eof = form.eof;
   tries = is_some form.eof && form.fill;
   check = checked_by (counted form.eof form.fill checks);
   stores = form.stores;
-  among = is_among [];
+  format = form.format;
+  table = table;
 }
 
 -- the scanner as it stands in blocks
@@ -99,10 +105,10 @@ source_in blocks scanner = record scanner { endings = endings_in blocks scanner.
 abbrev pub sources_in : List CodeBlock → List Source → List Source
 sources_in blocks scanners = map (source_in blocks) scanners
 
-abbrev pub given_of : Form → Source → Given
-given_of form scanner = record {
+abbrev pub given_of : Form → (table : List ℕ) → Source → Given
+given_of form table scanner = record {
   cond = scanner.cond;
-  demand = demand_of form scanner.checks;
+  demand = demand_of form table scanner.checks;
   endings = scanner.endings;
   end_rule = scanner.end_rule;
   auto = scanner.auto;
@@ -150,6 +156,9 @@ pub record IsFitScanner (form : Form) (conds : List (List ℕ)) (scanner : Sourc
   pub agreed : AreAgreed scanner.auto.states
   pub accepts : All (λ (state : State). IfSome state.accept (FitsAccept form.names conds scanner.endings)) scanner.auto.states
   pub checks : AreChecks scanner.auto scanner.checks
+  -- in format 3 no tag is named as the table
+  pub tags : is_format_three form.format ≡ true
+      → All (λ (state : State). IfSome state.accept (λ accept. list_any begins_table (scanner.endings accept.rule).tags ≡ false)) scanner.auto.states
   pub end : IfSome scanner.end_rule (FitsEnd form conds scanner)
 
 -- there are scanners, all with a condition or one without; and what is given beside them can be written
@@ -163,6 +172,9 @@ pub record AreFit (form : Form) (scanners : List Source) : Type 0 where
   pub names : AreAllowed form.names
   pub names_differ : DoNotClash form.names
   pub no_primitive : form.custom ≡ true → name_primitives form.names ≡ false
+  -- in format 3 no spelling of a variable means the table, and no label of a condition begins as those of blocks do
+  pub no_table : is_format_three form.format ≡ true → name_table form.names ≡ false
+  pub no_block_label : is_format_three form.format ≡ true → list_any (is_like_block form.number form.names) (conds_of scanners) ≡ false
   pub line : IsLine form.line
 
 -- ---- what is promised of a scanner
@@ -187,7 +199,7 @@ pub record IsScannerIn (mode : Mode) (enc : Enc) (given : Given) (checks : List 
   pub carries : Carries piece entry (endings_in piece.blocks given.endings) given.auto
   pub needs : ChecksIn mode piece entry carries.place given.auto checks
   pub rules : EndsRules piece entry (endings_in piece.blocks given.endings)
-  pub tests : HasFewTests piece entry carries.place given.demand.eof (greatest_unit enc) given.auto
+  pub tests : HasFewTests piece entry given.demand.format carries.place given.demand.eof (greatest_unit enc) given.auto
   pub right : (policy : Policy) (patterns : List Pattern) (cond : List ℕ) → IsAutoUnder policy enc patterns given.auto
       → HaveEndings enc patterns given.endings → end_rule patterns ≡ given.end_rule → MayBegin given.cond cond
       → IsRightInMode policy mode cond enc patterns given.endings piece
@@ -196,7 +208,7 @@ pub record IsScannerIn (mode : Mode) (enc : Enc) (given : Given) (checks : List 
 
 abbrev pub head_of : Form → List CodeBlock → Head
 head_of form blocks = record {
-  format = Two;
+  format = form.format;
   custom = form.custom;
   enc = form.enc;
   mode = mode_of form.eof form.fill;
@@ -205,8 +217,8 @@ head_of form blocks = record {
   states = state_count blocks;
 }
 
--- The fields beside the blocks. It declares its variables itself where it stores no state, and has no table of sets; register 1 is spelled as
--- the context marker only where a statement has it.
+-- The fields beside the blocks. It declares its variables itself where it stores no state, and has a table of sets in format 3 alone; register 1
+-- is spelled as the context marker only where a statement has it.
 pub record HasFields (form : Form) (conds : List (List ℕ)) (piece : Piece) : Type 0 where
   pub number : piece.number ≡ form.number
   pub head : piece.head ≡ Some (head_of form piece.blocks)
@@ -214,7 +226,7 @@ pub record HasFields (form : Form) (conds : List (List ℕ)) (piece : Piece) : T
   pub unit : piece.unit ≡ unit_size form.enc
   pub eof : piece.eof ≡ form.eof
   pub declares : piece.declares ≡ (if form.stores then false else true)
-  pub table : piece.table ≡ []
+  pub table : form.format ≡ Two → piece.table ≡ []
   pub ctx : piece.ctx ≡ form.context && list_any has_register_one (all_statements piece.blocks)
   pub switches : is_some piece.states ≡ form.switches
   pub conds_are : map (λ case. case.cond) piece.conds ≡ conds
@@ -234,11 +246,11 @@ pub record IsPieceOf (form : Form) (scanners : List Source) (piece : Piece) : Ty
   pub forgets : JumpsForget piece.blocks
   pub actions : AllByRecursion (IsActionOf scanners) (all_statements piece.blocks)
   pub stand : AllByRecursion (λ (scanner : Source).
-      IsScannerIn (mode_of form.eof form.fill) form.enc (given_of form scanner) scanner.checks piece) scanners
+      IsScannerIn (mode_of form.eof form.fill) form.enc (given_of form piece.table scanner) scanner.checks piece) scanners
 
--- each scanner has a part
-abbrev pub ArePartsOf : Form → List Source → List Part → Type 0
-ArePartsOf form [] [] = Unit {0}
-ArePartsOf form (scanner ∷ scanners) (part ∷ parts) =
-    IsPartOf (greatest_unit form.enc) (given_of form scanner) part × ArePartsOf form scanners parts
-ArePartsOf form scanners parts = ⊥
+-- with a table of sets each scanner has a part
+abbrev pub ArePartsOf : Form → (table : List ℕ) → List Source → List Part → Type 0
+ArePartsOf form table [] [] = Unit {0}
+ArePartsOf form table (scanner ∷ scanners) (part ∷ parts) =
+    IsPartOf (greatest_unit form.enc) (given_of form table scanner) part × ArePartsOf form table scanners parts
+ArePartsOf form table scanners parts = ⊥

@@ -14,7 +14,8 @@ use Rattle.lx_layout.specs.Fallback.{chosen, edge_code, fallback_code}
 use Rattle.lx_layout.specs.Halting.{Halting, is_entered, is_saved}
 use Rattle.lx_layout.specs.Layout.{StandsFrom}
 use Rattle.lx_layout.specs.Supplies.{Reader, Supply, back_code, end_test, entry, need_code, state, try_code}
-use Rattle.lx_layout.specs.TestTrees.{TestTree, inner_blocks, picked, tree_code}
+use Rattle.lx_dispatch.specs.TestTrees.{TestTree, picked}
+use Rattle.lx_layout.specs.TreeCodes.{inner_blocks, tree_code}
 
 -- With this supply of units, these marks of the states in which a match can end, these ends of rules, units up to a greatest one, and
 -- blocks; each state has a block where its code begins, and a number by which it is saved. The end of each rule by which a match can end

@@ -14,9 +14,10 @@ use Rattle.lx_layout.specs.Endings.{Ending, ending_code}
 use Rattle.lx_layout.specs.Layout.{choices_from, class_block, end_block, end_blocks, end_size, ending_blocks, lone_blocks, lone_place, lone_size, restore_blocks, rule_place, saved_number}
 use Rattle.lx_layout.specs.Halting.{Halting, any_falls, ended_accepts, halted_accept, is_entered, saved_accepts}
 use Rattle.lx_layout.specs.Supplies.{Reader, Supply, back_code, end_test, entry, need_code, state as by_state, try_code}
-use Rattle.lx_layout.specs.TestTrees.{TestTree, cases_by, fork, inner_blocks, inner_size, leaf, switch, test, tree_code}
-use Rattle.lx_layout.specs.TransitionClasses.{Split, edge_class, same_place, transition_classes}
-use Rattle.lx_layout.specs.UnitApart.{reader_split}
+use Rattle.lx_dispatch.specs.TestTrees.{TestTree, cases_by, fork, leaf, switch, test}
+use Rattle.lx_layout.specs.TreeCodes.{inner_blocks, inner_size, tree_code}
+use Rattle.lx_dispatch.specs.TransitionClasses.{Split, edge_class, same_place, transition_classes}
+use Rattle.lx_dispatch.specs.UnitApart.{reader_split}
 
 -- ---- what reads a unit
 

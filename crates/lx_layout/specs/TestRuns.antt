@@ -14,6 +14,18 @@ is_test (IfSet set block) = true
 is_test (Switch cases last) = true
 is_test _ = false
 
+-- the statement asks whether a unit is one unit, or in a set
+abbrev pub is_first_test : Stmt → Bool
+is_first_test (IfIs unit block) = true
+is_first_test (IfSet set block) = true
+is_first_test _ = false
+
+-- the statement asks whether a unit is at most another one, or goes by cases
+abbrev pub is_other_test : Stmt → Bool
+is_other_test (IfUnit greatest block) = true
+is_other_test (Switch cases last) = true
+is_other_test _ = false
+
 -- From its code on the machine reads this unit and comes to other code, and changes nothing else. It tests a unit at most so often before.
 pub record ComesTo (piece : Piece) (stream : List ℕ) (code : List Stmt) (machine : Machine) (answers : List Answer) (unit most : ℕ) (to : List Stmt) : Type 0 where
   pub steps : ℕ

@@ -2,7 +2,7 @@
 use Rattle.std.specs.Prelude.{ℕ, Option, Some, None, if◌then◌else◌}
 use Rattle.lx_layout.specs.Layout.{class_block}
 use Rattle.lx_layout.specs.Supplies.{Reader}
-use Rattle.lx_layout.specs.TransitionClasses.{same_place}
+use Rattle.lx_dispatch.specs.TransitionClasses.{same_place}
 use Rattle.lx_layout.specs.declared.readers.Exits.{Exits}
 
 -- the block of a class; the place behind those of the classes is that of the unit at the end of the input

@@ -7,6 +7,7 @@ ghost use Rattle.lx_layout.specs.RefillCounts.{turn_count};
 
 use crate::rule_ends::RuleEnd;
 use lx_auto::Auto;
+use lx_dispatch::Asking;
 use lx_shared::SharedText;
 
 /// How a scanner gets its units, before the states that it stores have numbers.
@@ -20,6 +21,8 @@ pub(crate) struct Demand<'a> {
     pub checks: Option<&'a [u32]>,
     /// Whether what reads is stored before a refill.
     pub stores: bool,
+    /// The format of the text, and the sets that are tested.
+    pub asking: Asking<'a>,
 }
 
 /// What a scanner is made of.

@@ -40,8 +40,10 @@ ghost use Rattle.lx_layout.specs.Supplied.{ServesEntry};
 ghost use Rattle.lx_layout.specs.Supplies.{Reader, Supply};
 ghost use Rattle.lx_layout.specs.Stops.{bank_from, told_found};
 ghost use Rattle.lx_layout.specs.TestRuns.{ComesTo};
-ghost use Rattle.lx_layout.specs.TestTrees.{IsTreeOf, PicksAs, TestTree, TestsWithin, depth, inner_blocks, picked, split_class, tree_code};
-ghost use Rattle.lx_layout.specs.TransitionClasses.{Split};
+ghost use Rattle.lx_dispatch.specs.Dispatch.{TestsWithin, top_of};
+ghost use Rattle.lx_dispatch.specs.TestTrees.{IsTreeOf, PicksAs, TestTree, depth, picked, split_class};
+ghost use Rattle.lx_layout.specs.TreeCodes.{inner_blocks, tree_code};
+ghost use Rattle.lx_dispatch.specs.TransitionClasses.{Split};
 
 /// A piece whose blocks serve the automaton of its rules is right in the mode of its supply, if a rule stands at the end of the stream
 /// only where a unit does.
@@ -62,14 +64,14 @@ pub fn supplied_layouts_serve()
     ensures blocks { (supply : Supply) (halting : Halting) (endings : ℕ → Ending) (end_rule : Option ℕ) (greatest : ℕ) (trees : Reader → TestTree (Option ℕ)) (auto : Auto)
         (begin : ℕ) (blocks : List (List Stmt)) → IsAuto auto
         → All (λ (state : State). All (λ (edge : Edge). edge.hi ≤ greatest) state.edges) auto.states → AreAgreed auto.states
-        → (IsSome end_rule → IsSome supply.eof) → EachReader (PicksAs supply.among) supply.eof greatest trees auto → AreHalting supply.eof end_rule greatest auto halting
+        → (IsSome end_rule → IsSome supply.eof) → EachReader (PicksAs (top_of supply.eof greatest) supply.among) supply.eof greatest trees auto → AreHalting supply.eof end_rule greatest auto halting
         → StandsFrom blocks begin (supplied_layout supply halting endings end_rule trees auto begin)
         → supplied.Serves supply halting endings greatest auto blocks (layouts.place_of supply halting end_rule trees auto begin) (number_in halting auto.states)
         (layouts.rule_block supply halting end_rule trees auto begin) (layouts.fall_block supply halting end_rule trees auto begin) end_rule }
     ensures entry { (supply : Supply) (halting : Halting) (endings : ℕ → Ending) (end_rule : Option ℕ) (greatest : ℕ) (trees : Reader → TestTree (Option ℕ)) (auto : Auto)
         (begin : ℕ) (blocks : List (List Stmt)) → IsAuto auto
         → All (λ (state : State). All (λ (edge : Edge). edge.hi ≤ greatest) state.edges) auto.states
-        → (IsSome end_rule → IsSome supply.eof) → EachReader (PicksAs supply.among) supply.eof greatest trees auto → AreHalting supply.eof end_rule greatest auto halting
+        → (IsSome end_rule → IsSome supply.eof) → EachReader (PicksAs (top_of supply.eof greatest) supply.among) supply.eof greatest trees auto → AreHalting supply.eof end_rule greatest auto halting
         → StandsFrom blocks begin (supplied_layout supply halting endings end_rule trees auto begin)
         → ServesEntry supply halting endings greatest auto blocks (layouts.place_of supply halting end_rule trees auto begin) (number_in halting auto.states)
         (layouts.rule_block supply halting end_rule trees auto begin) (layouts.fall_block supply halting end_rule trees auto begin) end_rule
@@ -82,7 +84,7 @@ pub fn supplied_layouts_are_right()
     ensures { (policy : Policy) (mode : Mode) (enc : Enc) (patterns : List Pattern) (auto : Auto) (trees : Reader → TestTree (Option ℕ))
         (endings : ℕ → Ending) (supply : Supply) (halting : Halting) (piece : Piece) (begin : ℕ) (cond : List ℕ)
         → IsAutoUnder policy enc patterns auto → HaveEndings enc patterns endings
-        → EachReader (PicksAs supply.among) supply.eof (greatest_unit enc) trees auto
+        → EachReader (PicksAs (top_of supply.eof (greatest_unit enc)) supply.among) supply.eof (greatest_unit enc) trees auto
         → AreHalting supply.eof (end_rule patterns) (greatest_unit enc) auto halting
         → StandsFrom (code_of piece.blocks) begin (supplied_layout supply halting endings (end_rule patterns) trees auto begin)
         → (IsSome (end_rule patterns) → IsSome supply.eof) → IsSupplied mode supply auto piece
@@ -93,20 +95,20 @@ pub fn supplied_layouts_are_right()
 /// Each block of a layout with a supply of units has one ending statement, which is its last, and each jump goes to a block of the layout,
 /// wherever it stands, if the trees of tests lead where edges lead and the states in which a match can end are marked.
 pub fn supplied_layouts_are_closed()
-    ensures jumps { (supply : Supply) (halting : Halting) (endings : ℕ → Ending) (end_rule : Option ℕ) (greatest : ℕ) (trees : Reader → TestTree (Option ℕ)) (auto : Auto)
-        (begin : ℕ) → IsAuto auto → EachReader TestsWithin supply.eof greatest trees auto
+    ensures jumps { (supply : Supply) (halting : Halting) (endings : ℕ → Ending) (end_rule : Option ℕ) (greatest room : ℕ) (trees : Reader → TestTree (Option ℕ)) (auto : Auto)
+        (begin : ℕ) → IsAuto auto → EachReader (TestsWithin room greatest) supply.eof greatest trees auto
         → AreHalting supply.eof end_rule greatest auto halting
         → AllByRecursion (λ code. AllByRecursion (JumpsWithin begin (begin + length (supplied_layout supply halting endings end_rule trees auto begin))) code)
         (supplied_layout supply halting endings end_rule trees auto begin) }
-    ensures ends { (supply : Supply) (halting : Halting) (endings : ℕ → Ending) (end_rule : Option ℕ) (greatest : ℕ) (trees : Reader → TestTree (Option ℕ)) (auto : Auto)
-        (begin : ℕ) → IsAuto auto → EachReader TestsWithin supply.eof greatest trees auto
+    ensures ends { (supply : Supply) (halting : Halting) (endings : ℕ → Ending) (end_rule : Option ℕ) (greatest room : ℕ) (trees : Reader → TestTree (Option ℕ)) (auto : Auto)
+        (begin : ℕ) → IsAuto auto → EachReader (TestsWithin room greatest) supply.eof greatest trees auto
         → AllByRecursion (λ code. ends_once code ≡ true) (supplied_layout supply halting endings end_rule trees auto begin) }
 {}
 
 /// A layout whose supply has no checks and tries no refill asks for no refill and stores no state.
 pub fn supplied_layouts_ask_for_nothing()
-    ensures { (supply : Supply) (halting : Halting) (endings : ℕ → Ending) (end_rule : Option ℕ) (greatest : ℕ) (trees : Reader → TestTree (Option ℕ)) (auto : Auto)
-        (begin : ℕ) → IsAuto auto → EachReader TestsWithin supply.eof greatest trees auto → supply.tries ≡ false
+    ensures { (supply : Supply) (halting : Halting) (endings : ℕ → Ending) (end_rule : Option ℕ) (greatest room : ℕ) (trees : Reader → TestTree (Option ℕ)) (auto : Auto)
+        (begin : ℕ) → IsAuto auto → EachReader (TestsWithin room greatest) supply.eof greatest trees auto → supply.tries ≡ false
         → ((state : ℕ) → supply.check state ≡ 0)
         → AllByRecursion (λ code. (list_any is_refill code ≡ false) × (list_any is_state code ≡ false))
         (supplied_layout supply halting endings end_rule trees auto begin) }
@@ -114,18 +116,19 @@ pub fn supplied_layouts_ask_for_nothing()
 
 /// A layout with a supply of units stores no state where the supply has no numbers for that.
 pub fn supplied_layouts_store_nothing()
-    ensures { (supply : Supply) (halting : Halting) (endings : ℕ → Ending) (end_rule : Option ℕ) (greatest : ℕ) (trees : Reader → TestTree (Option ℕ)) (auto : Auto)
-        (begin : ℕ) → IsAuto auto → EachReader TestsWithin supply.eof greatest trees auto → supply.stored ≡ None
+    ensures { (supply : Supply) (halting : Halting) (endings : ℕ → Ending) (end_rule : Option ℕ) (greatest room : ℕ) (trees : Reader → TestTree (Option ℕ)) (auto : Auto)
+        (begin : ℕ) → IsAuto auto → EachReader (TestsWithin room greatest) supply.eof greatest trees auto → supply.stored ≡ None
         → AllByRecursion (λ code. list_any is_state code ≡ false) (supplied_layout supply halting endings end_rule trees auto begin) }
 {}
 
 /// A piece carries an automaton where a layout of it with a supply of units stands, if the layout's statements name registers of the
 /// automaton, and the piece stores no state at two places, where it stores any.
 pub fn supplied_layouts_carry_automata()
-    ensures { (piece : Piece) (endings : ℕ → Ending) (end_rule : Option ℕ) (greatest : ℕ) (auto : Auto) (supply : Supply)
+    ensures { (piece : Piece) (endings : ℕ → Ending) (end_rule : Option ℕ) (greatest room : ℕ) (auto : Auto) (supply : Supply)
         (halting : Halting) (trees : Reader → TestTree (Option ℕ)) (begin : ℕ) → IsAuto auto
         → All (λ (state : State). All (λ (edge : Edge). edge.hi ≤ greatest) state.edges) auto.states → AreAgreed auto.states
-        → (IsSome end_rule → IsSome supply.eof) → EachReader IsTreeOf supply.eof greatest trees auto
+        → (IsSome end_rule → IsSome supply.eof) → EachReader (PicksAs (top_of supply.eof greatest) supply.among) supply.eof greatest trees auto
+        → EachReader (TestsWithin room greatest) supply.eof greatest trees auto
         → AreHalting supply.eof end_rule greatest auto halting
         → StandsFrom (code_of piece.blocks) begin (supplied_layout supply halting endings end_rule trees auto begin)
         → (supply.stored ≡ None) ⊎ AreOnce (states_from 0 piece.blocks)

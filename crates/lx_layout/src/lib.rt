@@ -27,9 +27,6 @@ pub mod scanner_laws;
 mod state_plans;
 mod statements;
 mod switches;
-mod test_trees;
-mod transition_classes;
-mod unit_splits;
 
 pub use number_index::NumberIndex;
 pub use pieces::{PieceForm, ScannerInput, piece_of};

@@ -1,13 +1,16 @@
 //! What holds of pieces in which scanners stand one behind another. Each law is the contract of a function that does nothing.
 ghost use Rattle.std.specs.Prelude.{◌≡◌, ℕ, ◌+◌, ◌*◌, ◌^◌, ◌<◌, ◌≤◌, Bool, IfSome, List, length, map, false, true};
 ghost use Rattle.std.specs.List.{AllByRecursion, list_any, range_with_len};
-ghost use Rattle.lx_base.specs.Names.{AreAllowed, AreDistinct, DoNotClash, Spellings, name_primitives};
+ghost use Rattle.lx_base.specs.Names.{AreAllowed, AreDistinct, DoNotClash, Spellings, name_primitives, name_table};
 ghost use Rattle.lx_base.specs.Spelling.{greatest_unit};
 ghost use Rattle.lx_base.specs.declared.limits.TheConstants.{STATEMENT_LIMIT};
 ghost use Rattle.lx_base.specs.declared.settings.Enc.{Enc};
+ghost use Rattle.lx_base.specs.declared.settings.Format.{Format};
 ghost use Rattle.lx_ccode.specs.Counts.{is_peek};
+ghost use Rattle.lx_ccode.specs.Heads.{is_format_three};
+ghost use Rattle.lx_ccode.specs.Labels.{is_like_block};
 ghost use Rattle.lx_ccode.specs.States.{states_from};
-ghost use Rattle.lx_ccode.specs.Statements.{all_statements, code_of, has_register_one, is_need, is_state, is_try, statement_count};
+ghost use Rattle.lx_ccode.specs.Statements.{all_statements, code_of, has_register_one, is_need, is_state, is_try, names_table, statement_count};
 ghost use Rattle.lx_ccode.specs.Validity.{AreOnce, EachBlockHasSpelling, HasFewGroups, IsLine, IsLong, IsShort, IsStateSwitch, IsValid, JumpsBelow, NamesOneOf, ends_once, label_of, labels, last_statements, refills_after_states, states_before_refills, tries_after_state};
 ghost use Rattle.lx_ccode.specs.declared.piece.CodeBlock.{CodeBlock};
 ghost use Rattle.lx_ccode.specs.declared.piece.Mode.{Mode};
@@ -90,11 +93,13 @@ pub fn parts_ask_before_they_read()
 /// A piece in which scanners stand one behind another is valid, if they can be written, ask for refills as pieces of its mode do, and all
 /// store what reads or none does.
 pub fn parts_are_valid()
-    ensures { (custom : Bool) (enc : Enc) (mode : Mode) (stores : Bool) (first : ℕ) (parts : List Part) (piece : Piece) → 0 < length parts
+    ensures { (format : Format) (custom : Bool) (enc : Enc) (mode : Mode) (stores : Bool) (first : ℕ) (parts : List Part) (piece : Piece) → 0 < length parts
         → AreFormed (greatest_unit enc) parts → AllByRecursion (Suits mode) parts → AllStore stores parts
-        → PartsCanBeWritten piece.names (conds_of parts) parts → AreDistinct (conds_of parts) → IsPieceOf custom enc mode first parts piece
+        → PartsCanBeWritten piece.names (conds_of parts) parts → AreDistinct (conds_of parts) → IsPieceOf format custom enc mode first parts piece
         → IsShort piece.number → IfSome piece.eof (λ eof. eof < 2 ^ (8 * piece.unit)) → IsLine piece.line → AreAllowed piece.names → DoNotClash piece.names
-        → (custom ≡ true → name_primitives piece.names ≡ false)
+        → (custom ≡ true → name_primitives piece.names ≡ false) → (is_format_three format ≡ true → name_table piece.names ≡ false)
+        → (is_format_three format ≡ true → list_any names_table (all_statements piece.blocks) ≡ false)
+        → (is_format_three format ≡ true → list_any (is_like_block piece.number piece.names) (conds_of parts) ≡ false)
         → (piece.ctx ≡ true → list_any has_register_one (all_statements piece.blocks) ≡ true)
         → statement_count piece.blocks ≤ STATEMENT_LIMIT → IsLong (first + all_asked parts) → IsValid piece }
 {}

@@ -9,8 +9,8 @@ ghost use Rattle.lx_layout.specs.Marks.{seen_marks};
 ghost use Rattle.lx_layout.specs.Parts.{state_asks};
 ghost use Rattle.lx_layout.specs.Plans.{unlabelled};
 ghost use Rattle.lx_layout.specs.SuppliedLayout.{lone_number};
-ghost use Rattle.lx_layout.specs.TransitionClasses.{edge_class, transition_classes};
-ghost use Rattle.lx_layout.specs.Views.{seen_classes};
+ghost use Rattle.lx_dispatch.specs.TransitionClasses.{edge_class, transition_classes};
+ghost use Rattle.lx_dispatch.specs.Views.{seen_classes};
 
 use crate::blocks::{append_block, sum};
 use crate::halting::Marks;
@@ -20,10 +20,10 @@ use crate::readers::{Exits, Reading, append_reader, class_block};
 use crate::refills::{Turn, append_turn};
 use crate::state_plans::PartPlans;
 use crate::statements::append_list;
-use crate::transition_classes::{TransitionClass, class_place};
 use lx_auto::{Accept, Auto, Edge, State};
 use lx_base::Memory;
 use lx_ccode::{CodeBlock, Stmt};
+use lx_dispatch::{TransitionClass, class_place};
 use std::alloc::Global;
 
 /// Where a state stands.

@@ -1,10 +1,12 @@
 //! What holds of pieces of scanners. Each law is the contract of a function that does nothing.
-ghost use Rattle.std.specs.Prelude.{◌≡◌, ◌≤◌, List, IfSome};
+ghost use Rattle.std.specs.Prelude.{◌≡◌, ◌≤◌, List, IfSome, length};
 ghost use Rattle.lx_base.specs.declared.limits.TheConstants.{STATEMENT_LIMIT};
+ghost use Rattle.lx_ccode.specs.Counts.{table_size};
 ghost use Rattle.lx_ccode.specs.States.{states_from};
 ghost use Rattle.lx_ccode.specs.Statements.{statement_count};
 ghost use Rattle.lx_ccode.specs.Validity.{IsShort, labels};
 ghost use Rattle.lx_ccode.specs.declared.piece.Piece.{Piece};
+ghost use Rattle.lx_dispatch.specs.Dispatch.{IsTable};
 ghost use Rattle.lx_layout.specs.Forgetting.{JumpsForget};
 ghost use Rattle.lx_layout.specs.Parts.{Part, parts_blocks};
 ghost use Rattle.lx_layout.specs.Pieces.{AreFit, ArePartsOf, Form, HasFields, IsPieceOf, Source, sources_in};
@@ -14,7 +16,7 @@ ghost use Rattle.lx_layout.specs.Switches.{cond_cases};
 /// match kept is to be forgotten before a jump, if a statement tests it.
 pub fn parts_are_pieces()
     ensures { (form : Form) (scanners : List Source) (parts : List Part) (piece : Piece) → AreFit form scanners
-        → ArePartsOf form (sources_in piece.blocks scanners) parts
+        → ArePartsOf form piece.table (sources_in piece.blocks scanners) parts → IsTable piece.table → length piece.table ≡ table_size piece.blocks
         → IsShort form.number
         → piece.blocks ≡ parts_blocks 0 form.first_state parts → statement_count piece.blocks ≤ STATEMENT_LIMIT
         → HasFields form (labels piece.blocks) piece → IfSome piece.states (λ cases. cases ≡ states_from 0 piece.blocks)

@@ -3,10 +3,12 @@ ghost use Rattle.std.specs.Prelude.{◌≡◌, ◌+◌, ◌≤◌, ◌&&◌, ◌
 ghost use Rattle.std.specs.List.{list_any};
 ghost use Rattle.lx_base.specs.Spelling.{greatest_unit};
 ghost use Rattle.lx_base.specs.declared.limits.TheConstants.{STATEMENT_LIMIT};
-ghost use Rattle.lx_ccode.specs.Counts.{mregs_of, state_count};
+ghost use Rattle.lx_base.specs.declared.settings.Format.TheVariants.{Two};
+ghost use Rattle.lx_ccode.specs.Counts.{mregs_of, state_count, table_size};
 ghost use Rattle.lx_ccode.specs.States.{states_from};
 ghost use Rattle.lx_ccode.specs.Statements.{all_statements, has_register_one, statement_count};
 ghost use Rattle.lx_ccode.specs.Validity.{IsShort, labels};
+ghost use Rattle.lx_dispatch.specs.Dispatch.{IsTable};
 ghost use Rattle.lx_layout.specs.Copies.{given_by};
 ghost use Rattle.lx_layout.specs.Forgetting.{JumpsForget};
 ghost use Rattle.lx_layout.specs.LaidParts.{seen_given};
@@ -27,7 +29,9 @@ use lx_auto::Auto;
 use lx_base::{Enc, Format, Memory, Names, Sequence};
 use lx_ccode::{
     CodeBlock, Head, LineMark, Mode, Piece, StateCase, count_statements, mregs_of, regs_of,
+    table_size,
 };
+use lx_dispatch::{Asking, UnitSets};
 use lx_encode::{greatest_unit, unit_bytes};
 use lx_shared::SharedText;
 use std::alloc::Global;
@@ -37,6 +41,8 @@ use std::alloc::Global;
 pub struct PieceForm {
     /// The number in its output, counted from 1.
     pub number: u32,
+    /// The format of its text.
+    pub format: Format,
     pub names: Names,
     pub enc: Enc,
     /// Whether it reads its input by primitives of the user's, and not through pointers.
@@ -86,8 +92,12 @@ pub(crate) fn mode_of(eof: Option<u32>, fill: bool) -> Mode
 }
 
 /// What the layout of a scanner is made of.
-fn part_input<'b>(form: &PieceForm, scanner: &ScannerInput<'b, 'b>) -> PartInput<'b>
-    ensures given { given_by scanner.now.by (seen_given result) ≡ given_of (seen_form form.now) (seen_source scanner.now) }
+fn part_input<'b>(
+    form: &PieceForm,
+    sets: &'b UnitSets,
+    scanner: &ScannerInput<'b, 'b>,
+) -> PartInput<'b>
+    ensures given { given_by scanner.now.by (seen_given result) ≡ given_of (seen_form form.now) sets.now.table.items (seen_source scanner.now) }
     ensures greatest { result.greatest ≡ greatest_unit form.now.enc }
     ensures ends { result.ends.now ≡ scanner.now.ends.now }
     ensures auto { result.auto.now ≡ scanner.now.auto.now }
@@ -101,6 +111,10 @@ fn part_input<'b>(form: &PieceForm, scanner: &ScannerInput<'b, 'b>) -> PartInput
             tries: form.fill && form.eof.is_some(),
             checks: if counted { Some(scanner.checks) } else { None },
             stores: form.stores,
+            asking: Asking {
+                format: form.format,
+                sets,
+            },
         },
         greatest: greatest_unit(form.enc),
         ends: scanner.ends,
@@ -113,17 +127,18 @@ fn part_input<'b>(form: &PieceForm, scanner: &ScannerInput<'b, 'b>) -> PartInput
 fn shared_front<'a>(
     alloc: Global,
     form: &PieceForm,
+    sets: &'a UnitSets,
     scanners: &[ScannerInput<'a, 'a>],
 ) -> Result<Option<Front<'a>>, Memory>
     requires fit { AreFit (seen_form form.now) (seen_sources scanners.now) }
     requires like { AreLike scanners.now }
     ensures there { IfOk result (λ front. list_any is_like scanners.now ≡ true → is_some front ≡ true) }
     ensures front { IfOk result (λ front. IfSome front (λ one. (first : ScannerInput) (others : List ScannerInput) → scanners.now ≡ first ∷ others
-        → IsFrontOf (seen_form form.now) first one)) }
+        → IsFrontOf (seen_form form.now) sets.now.table.items first one)) }
 {
     for scanner in scanners {
         if scanner.by.is_some() {
-            return Ok(Some(front_of(alloc, &part_input(form, &scanners[0]))?));
+            return Ok(Some(front_of(alloc, &part_input(form, sets, &scanners[0]))?));
         }
     }
     Ok(None)
@@ -135,17 +150,18 @@ fn append_scanner(
     alloc: Global,
     blocks: &mut Vec<CodeBlock>,
     form: &PieceForm,
+    sets: &UnitSets,
     front: &Option<Front<'_>>,
     scanner: &ScannerInput<'_, '_>,
     first: u64,
 ) -> Result<u64, Memory>
     requires fit { (conds : List (List ℕ)) × IsFitScanner (seen_form form.now) conds (seen_source scanner.now) }
-    requires like { IfSome scanner.now.by (λ by. HasFront (seen_form form.now) front.now scanner.now) }
-    ensures laid { OnOk result ((part : Part) × IsPartOf (greatest_unit form.now.enc) (given_of (seen_form form.now) (seen_source scanner.now)) part
+    requires like { IfSome scanner.now.by (λ by. HasFront (seen_form form.now) sets.now.table.items front.now scanner.now) }
+    ensures laid { OnOk result ((part : Part) × IsPartOf (greatest_unit form.now.enc) (given_of (seen_form form.now) sets.now.table.items (seen_source scanner.now)) part
         × (blocks.new.items ≡ blocks.old.items ++ part_blocks part (length blocks.old.items) first)) }
-    ensures asked { IfOk result (λ next. next ≡ first + given_asked (given_of (seen_form form.now) (seen_source scanner.now))) }
+    ensures asked { IfOk result (λ next. next ≡ first + given_asked (given_of (seen_form form.now) sets.now.table.items (seen_source scanner.now))) }
 {
-    let input = part_input(form, scanner);
+    let input = part_input(form, sets, scanner);
     match (scanner.by, front) {
         (None, _) => append_part(alloc, blocks, &input, first),
         (Some(by), Some(front)) => append_like(alloc, blocks, front, &input, by, first),
@@ -158,6 +174,7 @@ fn append_scanners(
     alloc: Global,
     blocks: &mut Vec<CodeBlock>,
     form: &PieceForm,
+    sets: &UnitSets,
     front: &Option<Front<'_>>,
     scanners: &[ScannerInput<'_, '_>],
 ) -> Result<(), Memory>
@@ -165,43 +182,107 @@ fn append_scanners(
     requires like { AreLike scanners.now }
     requires there { list_any is_like scanners.now ≡ true → is_some front.now ≡ true }
     requires front { IfSome front.now (λ one. (first : ScannerInput) (others : List ScannerInput) → scanners.now ≡ first ∷ others
-        → IsFrontOf (seen_form form.now) first one) }
+        → IsFrontOf (seen_form form.now) sets.now.table.items first one) }
     requires empty { blocks.old.items ≡ [] }
-    ensures { OnOk result ((parts : List Part) × ArePartsOf (seen_form form.now) (seen_sources scanners.now) parts
+    ensures { OnOk result ((parts : List Part) × ArePartsOf (seen_form form.now) sets.now.table.items (seen_sources scanners.now) parts
         × (blocks.new.items ≡ parts_blocks 0 form.now.first_state parts)) }
 {
     let mut next = form.first_state;
     for scanner in scanners {
-        next = append_scanner(alloc, blocks, form, front, scanner, next)?;
+        next = append_scanner(alloc, blocks, form, sets, front, scanner, next)?;
     }
     Ok(())
 }
 
-/// The blocks of scanners one behind another. What a match kept is forgotten before each jump, if a statement tests it.
+/// The blocks of scanners one behind another, whose tests ask for these sets. What a match kept is forgotten before each jump, if a statement
+/// tests it.
 ///
 /// Blocks with more than 2^62 statements count as want of memory.
-pub(crate) fn scanner_blocks(
+fn scanner_blocks(
     alloc: Global,
     form: &PieceForm,
+    sets: &UnitSets,
     scanners: &[ScannerInput<'_, '_>],
 ) -> Result<Vec<CodeBlock>, Memory>
     requires fit { AreFit (seen_form form.now) (seen_sources scanners.now) }
     requires like { AreLike scanners.now }
+    requires table { IsTable sets.now.table.items }
     ensures parts { IfOk result (λ blocks. (parts : List Part)
-        × ArePartsOf (seen_form form.now) (sources_in blocks.items (seen_sources scanners.now)) parts
+        × ArePartsOf (seen_form form.now) sets.now.table.items (sources_in blocks.items (seen_sources scanners.now)) parts
         × (blocks.items ≡ parts_blocks 0 form.now.first_state parts)) }
     ensures forgets { IfOk result (λ blocks. JumpsForget blocks.items) }
     ensures few { IfOk result (λ blocks. statement_count blocks.items ≤ STATEMENT_LIMIT) }
+    ensures sets { IfOk result (λ blocks. table_size blocks.items ≤ length sets.now.table.items) }
 {
-    let front = shared_front(alloc, form, scanners)?;
+    let front = shared_front(alloc, form, sets, scanners)?;
     let mut blocks = Vec::new(alloc);
-    append_scanners(alloc, &mut blocks, form, &front, scanners)?;
+    append_scanners(alloc, &mut blocks, form, sets, &front, scanners)?;
     forget_before_jumps(alloc, &mut blocks)?;
     if count_statements(&blocks).is_none() {
         return Err(Memory);
     }
     blocks.shrink_to_fit();
     Ok(blocks)
+}
+
+/// The sets of scanners for which tests may ask: in format 3 those of states that go to themselves.
+fn sets_of(
+    alloc: Global,
+    form: &PieceForm,
+    scanners: &[ScannerInput<'_, '_>],
+) -> Result<UnitSets, Memory>
+    ensures table { IfOk result (λ sets. IsTable sets.table.items) }
+    ensures none { IfOk result (λ sets. form.now.format ≡ Two → sets.table.items ≡ []) }
+{
+    let mut sets = UnitSets::new(alloc);
+    if form.format == Format::Two {
+        return Ok(sets);
+    }
+    for scanner in scanners {
+        if scanner.by.is_none() {
+            sets.add(form.eof, greatest_unit(form.enc), scanner.auto)?;
+        }
+    }
+    Ok(sets)
+}
+
+/// The blocks of scanners, and the table of the sets for which they ask.
+#[derive(Drop)]
+pub(crate) struct Laid {
+    pub blocks: Vec<CodeBlock>,
+    pub table: Vec<u8>,
+}
+
+/// The blocks of scanners one behind another, and the table of the sets for which they ask. Where no test asks for the last sets they are cut, and
+/// the scanners are laid without them.
+///
+/// Blocks with more than 2^62 statements count as want of memory.
+pub(crate) fn laid_scanners(
+    alloc: Global,
+    form: &PieceForm,
+    scanners: &[ScannerInput<'_, '_>],
+) -> Result<Laid, Memory>
+    requires fit { AreFit (seen_form form.now) (seen_sources scanners.now) }
+    requires like { AreLike scanners.now }
+    ensures parts { IfOk result (λ laid. (parts : List Part)
+        × ArePartsOf (seen_form form.now) laid.table.items (sources_in laid.blocks.items (seen_sources scanners.now)) parts
+        × (laid.blocks.items ≡ parts_blocks 0 form.now.first_state parts)) }
+    ensures forgets { IfOk result (λ laid. JumpsForget laid.blocks.items) }
+    ensures few { IfOk result (λ laid. statement_count laid.blocks.items ≤ STATEMENT_LIMIT) }
+    ensures table { IfOk result (λ laid. IsTable laid.table.items) }
+    ensures none { IfOk result (λ laid. form.now.format ≡ Two → laid.table.items ≡ []) }
+    ensures size { IfOk result (λ laid. length laid.table.items ≡ table_size laid.blocks.items) }
+{
+    let mut sets = sets_of(alloc, form, scanners)?;
+    loop {
+        let blocks = scanner_blocks(alloc, form, &sets, scanners)?;
+        let size = table_size(&blocks) as usize;
+        if size == sets.table.len() {
+            let table = sets.table;
+            return Ok(Laid { blocks, table });
+        }
+        sets.cut(size / 256);
+    }
 }
 
 /// What a piece of these blocks tells of itself, where they store so many states.
@@ -212,7 +293,7 @@ fn head_of(form: &PieceForm, blocks: &[CodeBlock], states: u64) -> Head
 {
     let mregs = mregs_of(blocks);
     Head {
-        format: Format::Two,
+        format: form.format,
         custom: form.custom,
         enc: form.enc,
         mode: mode_of(form.eof, form.fill),
@@ -252,18 +333,17 @@ fn stored_cases(alloc: Global, stores: bool, blocks: &[CodeBlock]) -> Result<Vec
 }
 
 /// The piece of these blocks, whose histories have numbers of 32 bits.
-pub(crate) fn piece_with(
-    alloc: Global,
-    form: PieceForm,
-    blocks: Vec<CodeBlock>,
-) -> Result<Piece, Memory>
-    requires short { IsShort (mregs_of blocks.items) }
-    requires stored { form.stores ≡ false → states_from 0 blocks.items ≡ [] }
-    ensures fields { IfOk result (λ piece. HasFields (seen_form form) (labels blocks.items) piece) }
-    ensures blocks { IfOk result (λ piece. piece.blocks ≡ blocks.items) }
-    ensures states { IfOk result (λ piece. IfSome piece.states (λ cases. cases ≡ states_from 0 blocks.items)) }
-    ensures conds { IfOk result (λ piece. piece.conds ≡ cond_cases 0 blocks.items) }
+pub(crate) fn piece_with(alloc: Global, form: PieceForm, laid: Laid) -> Result<Piece, Memory>
+    requires short { IsShort (mregs_of laid.blocks.items) }
+    requires stored { form.stores ≡ false → states_from 0 laid.blocks.items ≡ [] }
+    requires none { form.format ≡ Two → laid.table.items ≡ [] }
+    ensures fields { IfOk result (λ piece. HasFields (seen_form form) (labels laid.blocks.items) piece) }
+    ensures blocks { IfOk result (λ piece. piece.blocks ≡ laid.blocks.items) }
+    ensures table { IfOk result (λ piece. piece.table ≡ laid.table.items) }
+    ensures states { IfOk result (λ piece. IfSome piece.states (λ cases. cases ≡ states_from 0 laid.blocks.items)) }
+    ensures conds { IfOk result (λ piece. piece.conds ≡ cond_cases 0 laid.blocks.items) }
 {
+    let Laid { blocks, table } = laid;
     let cases = stored_cases(alloc, form.stores, &blocks)?;
     let conds = cond_cases(alloc, &blocks)?;
     let head = head_of(&form, &blocks, cases.len() as u64);
@@ -277,7 +357,7 @@ pub(crate) fn piece_with(
         eof: form.eof,
         declares: !form.stores,
         ctx,
-        table: Sequence::new(alloc),
+        table: Sequence::from_vec(table),
         states,
         conds: Sequence::from_vec(conds),
         blocks: Sequence::from_vec(blocks),
@@ -297,7 +377,7 @@ pub fn piece_of(
     requires like { AreLike scanners.now }
     ensures { IfOk result (IsPieceOf (seen_form form) (seen_sources scanners.now)) }
 {
-    let blocks = scanner_blocks(alloc, &form, scanners)?;
-    let piece = piece_with(alloc, form, blocks)?;
+    let laid = laid_scanners(alloc, &form, scanners)?;
+    let piece = piece_with(alloc, form, laid)?;
     Ok(piece)
 }

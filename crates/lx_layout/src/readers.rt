@@ -1,19 +1,19 @@
 //! The blocks of what reads a unit.
-ghost use Rattle.std.specs.Prelude.{◌≡◌, ◌+◌, ◌++◌, ◌∷◌, [], None, IfOk, OnOk};
+ghost use Rattle.std.specs.Prelude.{◌≡◌, ◌+◌, ◌++◌, ◌∷◌, [], None, IfOk, OnOk, map};
 ghost use Rattle.lx_ccode.specs.declared.piece.Stmt.TheVariants as stmt;
 ghost use Rattle.lx_layout.specs.Layout.{class_block};
 ghost use Rattle.lx_layout.specs.Plans.{unlabelled};
 ghost use Rattle.lx_layout.specs.SuppliedLayout.{check_blocks, check_size, read_blocks, reader_blocks, reader_size, with_blocks};
 ghost use Rattle.lx_layout.specs.Supplies.{entry, need_code, store_code};
-ghost use Rattle.lx_layout.specs.TestTrees.{inner_blocks, inner_size, tree_code};
-ghost use Rattle.lx_layout.specs.Views.{seen_tree};
+ghost use Rattle.lx_layout.specs.TreeCodes.{asks, inner_blocks, inner_size, switch_cases, tree_code};
+ghost use Rattle.lx_dispatch.specs.TestTrees.{cases_by};
+ghost use Rattle.lx_dispatch.specs.Views.{seen_case, seen_question, seen_tree};
 ghost use Rattle.lx_layout.specs.Ways.{constant, way_of};
 
 use crate::blocks::{append_block, sum};
-use crate::test_trees::{TestTree, inner_size};
-use crate::unit_splits::same_place;
-use lx_base::Memory;
-use lx_ccode::{CodeBlock, Stmt};
+use lx_base::{Memory, Sequence};
+use lx_ccode::{CodeBlock, Stmt, SwitchCase};
+use lx_dispatch::{Question, TestTree, UnitCase, same_place};
 use std::alloc::Global;
 
 /// Where the tests of a state lead.
@@ -67,18 +67,83 @@ fn append_goto(stmts: &mut Vec<Stmt>, exits: Exits, class: Option<usize>) -> Res
     Ok(())
 }
 
-/// Appends the test that leads units up to a greatest one to the class at a place.
+/// The statement that asks a question of a unit, and jumps to a block where the answer is yes.
+fn asks(question: Question, block: u64) -> Stmt
+    ensures { result ≡ asks (seen_question question) block }
+{
+    match question {
+        Question::AtMost(greatest) => Stmt::IfUnit(greatest, block),
+        Question::Is(unit) => Stmt::IfIs(unit, block),
+        Question::Among(set) => Stmt::IfSet(set, block),
+    }
+}
+
+/// Appends the test that leads units of which a question holds to the class at a place.
 fn append_test(
     stmts: &mut Vec<Stmt>,
     exits: Exits,
-    greatest: u32,
+    question: Question,
     class: Option<usize>,
 ) -> Result<(), Memory>
-    ensures { OnOk result (stmts.new.items ≡ stmts.old.items ++ stmt.IfUnit greatest (way_of exits class) ∷ []) }
+    ensures { OnOk result (stmts.new.items ≡ stmts.old.items ++ asks (seen_question question) (way_of exits class) ∷ []) }
 {
     let block = way_of(exits, class)?;
-    stmts.push(Stmt::IfUnit(greatest, block))?;
+    stmts.push(asks(question, block))?;
     Ok(())
+}
+
+/// The case of a statement whose units go by a class.
+fn switch_case(alloc: Global, exits: Exits, case: &UnitCase) -> Result<SwitchCase, Memory>
+    ensures units { IfOk result (λ made. made.units ≡ case.now.units.items) }
+    ensures block { IfOk result (λ made. made.block ≡ way_of exits case.now.class) }
+{
+    Ok(SwitchCase {
+        units: Sequence::copy_of(alloc, case.units.as_slice())?,
+        block: way_of(exits, case.class)?,
+    })
+}
+
+/// The cases of a statement.
+fn switch_cases(
+    alloc: Global,
+    exits: Exits,
+    cases: &[UnitCase],
+) -> Result<Sequence<SwitchCase>, Memory>
+    ensures { IfOk result (λ made. made ≡ switch_cases (cases_by (way_of exits) (map seen_case cases.now))) }
+{
+    let mut made = Vec::with_capacity(alloc, cases.len())?;
+    for case in cases {
+        made.push(switch_case(alloc, exits, case)?)?;
+    }
+    Ok(Sequence::from_vec(made))
+}
+
+/// Appends the statement by which units go by cases.
+fn append_switch(
+    alloc: Global,
+    stmts: &mut Vec<Stmt>,
+    exits: Exits,
+    cases: &[UnitCase],
+    last: Option<usize>,
+) -> Result<(), Memory>
+    ensures { OnOk result (stmts.new.items
+        ≡ stmts.old.items ++ stmt.Switch (switch_cases (cases_by (way_of exits) (map seen_case cases.now))) (way_of exits last) ∷ []) }
+{
+    let made = switch_cases(alloc, exits, cases)?;
+    let block = way_of(exits, last)?;
+    stmts.push(Stmt::Switch(made, block))?;
+    Ok(())
+}
+
+/// How many blocks a tree needs for its lower tests.
+fn inner_size(tree: &TestTree) -> Result<u64, Memory>
+    ensures { IfOk result (λ size. size ≡ inner_size (seen_tree tree.now)) }
+{
+    match tree {
+        TestTree::Leaf(_) | TestTree::Switch { .. } => Ok(0),
+        TestTree::Test { high, .. } => inner_size(high),
+        TestTree::Fork { low, high, .. } => sum(sum(1, inner_size(low)?)?, inner_size(high)?),
+    }
 }
 
 /// The block behind that of a lower tree's first tests, which has the number `next`, and those of its lower tests.
@@ -90,6 +155,7 @@ fn block_behind(next: u64, low: &TestTree) -> Result<u64, Memory>
 
 /// Appends the statements of tests. The blocks of the lower tests begin at `next`.
 fn append_tests(
+    alloc: Global,
     stmts: &mut Vec<Stmt>,
     exits: Exits,
     next: u64,
@@ -100,12 +166,12 @@ fn append_tests(
     match tree {
         TestTree::Leaf(class) => append_goto(stmts, exits, *class),
         TestTree::Test {
-            greatest,
+            question,
             class,
             high,
         } => {
-            append_test(stmts, exits, *greatest, *class)?;
-            append_tests(stmts, exits, next, high)
+            append_test(stmts, exits, *question, *class)?;
+            append_tests(alloc, stmts, exits, next, high)
         }
         TestTree::Fork {
             greatest,
@@ -113,8 +179,9 @@ fn append_tests(
             high,
         } => {
             stmts.push(Stmt::IfUnit(*greatest, next))?;
-            append_tests(stmts, exits, block_behind(next, low)?, high)
+            append_tests(alloc, stmts, exits, block_behind(next, low)?, high)
         }
+        TestTree::Switch { cases, last } => append_switch(alloc, stmts, exits, cases, *last),
     }
 }
 
@@ -130,7 +197,7 @@ fn append_root(
         ≡ blocks.old.items ++ unlabelled (tree_code next (with_blocks (way_of exits) (seen_tree tree.now)) ∷ [])) }
 {
     let mut stmts = Vec::with_capacity(alloc, test_count(tree))?;
-    append_tests(&mut stmts, exits, next, tree)?;
+    append_tests(alloc, &mut stmts, exits, next, tree)?;
     append_block(blocks, stmts)
 }
 
@@ -146,7 +213,7 @@ fn append_lower(
         ≡ blocks.old.items ++ unlabelled (inner_blocks next (with_blocks (way_of exits) (seen_tree tree.now)))) }
 {
     match tree {
-        TestTree::Leaf(_) => Ok(()),
+        TestTree::Leaf(_) | TestTree::Switch { .. } => Ok(()),
         TestTree::Test { high, .. } => append_lower(alloc, blocks, exits, next, high),
         TestTree::Fork { low, high, .. } => {
             let inside = sum(1, next)?;
@@ -179,7 +246,7 @@ fn need_count(reading: Reading) -> usize {
 /// How many statements the first tests of a tree have.
 fn test_count(tree: &TestTree) -> usize {
     match tree {
-        TestTree::Leaf(_) => 1,
+        TestTree::Leaf(_) | TestTree::Switch { .. } => 1,
         TestTree::Test { high, .. } | TestTree::Fork { high, .. } => {
             test_count(high).saturating_add(1)
         }
@@ -215,7 +282,7 @@ fn append_read(
     let tests = test_count(tree).saturating_add(1);
     let mut stmts = need_code(alloc, reading, tests)?;
     stmts.push(Stmt::Peek)?;
-    append_tests(&mut stmts, exits, next, tree)?;
+    append_tests(alloc, &mut stmts, exits, next, tree)?;
     append_block(blocks, stmts)?;
     append_lower(alloc, blocks, exits, next, tree)
 }
@@ -251,7 +318,7 @@ fn append_plain(
 {
     match tree {
         TestTree::Leaf(class) => append_check(alloc, blocks, reading, way_of(exits, *class)?),
-        TestTree::Test { .. } | TestTree::Fork { .. } => {
+        TestTree::Test { .. } | TestTree::Fork { .. } | TestTree::Switch { .. } => {
             append_read(alloc, blocks, exits, reading, from, tree)
         }
     }
@@ -291,7 +358,10 @@ fn plain_size(units: u32, tree: &TestTree) -> Result<u64, Memory>
 {
     match tree {
         TestTree::Leaf(_) => Ok(check_size(units)),
-        TestTree::Test { .. } | TestTree::Fork { .. } => sum(1, inner_size(tree)?),
+        TestTree::Test { .. } | TestTree::Fork { .. } | TestTree::Switch { .. } => sum(
+            1,
+            inner_size(tree)?,
+        ),
     }
 }
 

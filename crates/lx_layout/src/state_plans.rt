@@ -6,20 +6,14 @@ ghost use Rattle.lx_layout.specs.LaidParts.{ArePlans, AreStatePlans, IsStatePlan
 ghost use Rattle.lx_layout.specs.Layout.{end_size, lone_size};
 ghost use Rattle.lx_layout.specs.Plans.{HaveOrder};
 ghost use Rattle.lx_layout.specs.SuppliedLayout.{lone_number};
-ghost use Rattle.lx_layout.specs.TestTrees.{IsTreeOf};
-ghost use Rattle.lx_layout.specs.TransitionClasses.{transition_classes};
-ghost use Rattle.lx_layout.specs.UnitApart.{reader_split};
-ghost use Rattle.lx_layout.specs.Views.{class_list, seen_classes, seen_tree};
 
 use crate::blocks::sum;
 use crate::demands::PartInput;
 use crate::halting::{Marks, marks_of, start_is_entered};
 use crate::readers::reader_size;
-use crate::test_trees::{TestTree, split_tree};
-use crate::transition_classes::{TransitionClasses, transition_classes};
-use crate::unit_splits::reader_split;
-use lx_auto::{Accept, Edge, State};
+use lx_auto::{Accept, State};
 use lx_base::Memory;
+use lx_dispatch::{Asking, TestTree, TransitionClasses, tests_of, transition_classes};
 use std::alloc::Global;
 
 /// The transition classes of a state, and its tests.
@@ -58,36 +52,22 @@ impl Drop for PartPlans<'_> {
     }
 }
 
-/// The tests for units up to a greatest one, by edges and their classes, where a unit stands at the end of the input or not.
-fn tests_of(
-    alloc: Global,
-    eof: Option<u32>,
-    greatest: u32,
-    classes: &TransitionClasses<'_>,
-    edges: &[Edge],
-) -> Result<TestTree, Memory>
-    requires order { AreApart edges.now }
-    requires classes { seen_classes (class_list classes.now) ≡ transition_classes edges.now }
-    ensures { IfOk result (λ tests. IsTreeOf (reader_split eof greatest edges.now) (seen_tree tests)) }
-{
-    let split = reader_split(alloc, eof, greatest, classes, edges)?;
-    split_tree(alloc, &split)
-}
-
-/// The transition classes and the tests of a state for units up to a greatest one, where a unit stands at the end of the input or not.
+/// The transition classes and the tests of the state with a number for units up to a greatest one, where a unit stands at the end of the
+/// input or not.
 fn plan_of<'a>(
     alloc: Global,
+    asking: Asking<'_>,
     eof: Option<u32>,
     greatest: u32,
+    number: usize,
     state: &'a State,
 ) -> Result<StatePlan<'a>, Memory>
     requires { AreApart state.now.edges }
     ensures state { IfOk result (λ plan. plan.state.now ≡ state.now) }
-    ensures planned { IfOk result (λ plan. IsStatePlan eof greatest plan) }
+    ensures planned { IfOk result (λ plan. IsStatePlan asking.entry.format asking.entry.sets.now.table.items eof greatest plan) }
 {
-    let edges = state.edges.as_slice();
-    let classes = transition_classes(alloc, edges)?;
-    let tests = tests_of(alloc, eof, greatest, &classes, edges)?;
+    let classes = transition_classes(alloc, state.edges.as_slice())?;
+    let tests = tests_of(alloc, asking, eof, greatest, &classes, number, state)?;
     Ok(StatePlan {
         state,
         classes,
@@ -98,17 +78,18 @@ fn plan_of<'a>(
 /// The transition classes and the tests of states for units up to a greatest one.
 fn plans_of<'a>(
     alloc: Global,
+    asking: Asking<'_>,
     eof: Option<u32>,
     greatest: u32,
     states: &'a [State],
 ) -> Result<Vec<StatePlan<'a>>, Memory>
     requires { HaveOrder states.now }
     ensures states { IfOk result (λ plans. planned_states plans.items ≡ states.now) }
-    ensures planned { IfOk result (λ plans. AreStatePlans eof greatest plans.items) }
+    ensures planned { IfOk result (λ plans. AreStatePlans asking.entry.format asking.entry.sets.now.table.items eof greatest plans.items) }
 {
     let mut plans = Vec::with_capacity(alloc, states.len())?;
-    for state in states {
-        plans.push(plan_of(alloc, eof, greatest, state)?)?;
+    for (number, state) in states.iter().enumerate() {
+        plans.push(plan_of(alloc, asking, eof, greatest, number, state)?)?;
     }
     Ok(plans)
 }
@@ -129,7 +110,14 @@ pub(crate) fn part_plans<'a>(
     let input = *input;
     let eof = input.demand.eof;
     let marks = marks_of(alloc, input.greatest, eof, input.end_rule, input.auto)?;
-    let states = plans_of(alloc, eof, input.greatest, input.auto.states.as_slice())?;
+    let asking = input.demand.asking;
+    let states = plans_of(
+        alloc,
+        asking,
+        eof,
+        input.greatest,
+        input.auto.states.as_slice(),
+    )?;
     let entered = start_is_entered(input.end_rule, input.auto);
     Ok(PartPlans {
         input,

@@ -11,9 +11,9 @@ use Rattle.lx_ccode.specs.declared.piece.Stmt.{Stmt}
 use Rattle.lx_sequence.specs.ParallelCopies.{sequentialized}
 use Rattle.lx_layout.specs.Codes.{list_code}
 use Rattle.lx_layout.specs.Plans.{HaveOrder, unlabelled}
-use Rattle.lx_layout.specs.Views.{seen_classes}
-use Rattle.lx_layout.specs.TransitionClasses.{has_class, transition_classes, classes_onto}
-use Rattle.lx_layout.specs.declared.transition_classes.TransitionClass.{TransitionClass}
+use Rattle.lx_dispatch.specs.Views.{seen_classes}
+use Rattle.lx_dispatch.specs.TransitionClasses.{has_class, transition_classes, classes_onto}
+use Rattle.lx_dispatch.specs.declared.classes.TransitionClass.{TransitionClass}
 use Rattle.lx_layout.proofs.Operations.SequenceBounds.{ops_code-append}
 
 -- ---- statements

@@ -6,7 +6,7 @@ use Rattle.lx_auto.specs.declared.automaton.Auto.{Auto}
 use Rattle.lx_auto.specs.declared.ops.Op.{Op}
 use Rattle.lx_layout.specs.Endings.{Ending}
 use Rattle.lx_layout.specs.Layout.{end_blocks, end_size, ending_blocks, lone_blocks, lone_size, own_blocks, own_size, restore_blocks}
-use Rattle.lx_layout.specs.TestTrees.{TestTree}
+use Rattle.lx_dispatch.specs.TestTrees.{TestTree}
 
 module _ (trees : ℕ → TestTree (Option ℕ)) (auto : Auto) (rules : ℕ → ℕ) (fall : ℕ) where
   length-own_blocks : (block : ℕ) (ops : List Op) → length (own_blocks auto rules fall block ops) ≡ own_size ops

@@ -6,8 +6,10 @@ use Rattle.lx_ccode.specs.Statements.{code_length}
 use Rattle.lx_ccode.specs.declared.piece.Stmt.{Stmt}
 use Rattle.lx_ccode.specs.declared.piece.Stmt.TheVariants.{Peek}
 use Rattle.lx_layout.specs.Layout.{numbered, class_block}
-use Rattle.lx_layout.specs.TestTrees.{TestTree, fork, holds, inner_blocks, inner_size, leaf, picked, switch, test, tree_code}
-use Rattle.lx_layout.proofs.BlockLayouts.Questions.{case_way-by, each_question}
+use Rattle.lx_dispatch.specs.TestTrees.{TestTree, fork, holds, leaf, picked, switch, test}
+use Rattle.lx_layout.specs.TreeCodes.{inner_blocks, inner_size, tree_code}
+use Rattle.lx_layout.proofs.BlockLayouts.Questions.{each_question}
+use Rattle.lx_dispatch.proofs.Cases.{case_way-by}
 use Rattle.lx_layout.proofs.Validity.EachElement.{each-append}
 
 -- how many statements a tree has

@@ -4,9 +4,9 @@ use Rattle.std.proofs.Common.{arith}
 use Rattle.lx_auto.specs.Examples.{dotted}
 use Rattle.lx_layout.specs.Examples.{any_then, any_trees, dotted_trees, letters, letters_tree, seven, seven_tree}
 use Rattle.lx_layout.specs.SuppliedLayout.{EachState}
-use Rattle.lx_layout.specs.TestTrees.{IsTreeOf, IsTreeWithin, TestTree, at_most, fork, leaf, test}
-use Rattle.lx_layout.specs.TransitionClasses.{Split, Stretch}
-use Rattle.lx_layout.proofs.BlockLayouts.SplitTrees.{few_within, within_first, within_middle, within_none}
+use Rattle.lx_dispatch.specs.TestTrees.{IsTreeOf, IsTreeWithin, TestTree, at_most, fork, leaf, test}
+use Rattle.lx_dispatch.specs.TransitionClasses.{Split, Stretch}
+use Rattle.lx_dispatch.proofs.SplitTrees.{few_within, within_first, within_middle, within_none}
 
 abbrev stretch : (greatest : ℕ) → (class : Option ℕ) → Stretch
 stretch greatest class = record { greatest = greatest; class = class }

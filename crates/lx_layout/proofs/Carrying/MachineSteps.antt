@@ -22,7 +22,8 @@ use Rattle.lx_layout.specs.Fallback.{chosen, fallback_code}
 use Rattle.lx_layout.specs.Layout.{StandsFrom}
 use Rattle.lx_layout.specs.Stops.{bank_from}
 use Rattle.lx_layout.specs.Supplies.{Reader, need_code}
-use Rattle.lx_layout.specs.TestTrees.{TestTree, asks, fork, holds, inner_blocks, inner_size, leaf, picked, switch, switch_cases, test, tree_code}
+use Rattle.lx_dispatch.specs.TestTrees.{TestTree, fork, holds, leaf, picked, switch, test}
+use Rattle.lx_layout.specs.TreeCodes.{asks, inner_blocks, inner_size, switch_cases, tree_code}
 use Rattle.lx_layout.proofs.BlockLayouts.CodesInBlocks.{StandsFrom-back, StandsFrom-front}
 use Rattle.lx_layout.proofs.BlockLayouts.Questions.{FitsTable, cases_step, is_peek-asks, is_skip-asks, question_fails, question_holds}
 use Rattle.lx_layout.proofs.BlockLayouts.TreeCodes.{length-inner_blocks}

@@ -15,7 +15,8 @@ use Rattle.lx_layout.specs.Halting.{Halting}
 use Rattle.lx_layout.specs.Layout.{StandsFrom}
 use Rattle.lx_layout.specs.Supplied.{ServesReader, at_end, by_jump, by_tests, itself}
 use Rattle.lx_layout.specs.Supplies.{Reader, Supply, end_test, need_code}
-use Rattle.lx_layout.specs.TestTrees.{TestTree, inner_blocks, picked, tree_code}
+use Rattle.lx_dispatch.specs.TestTrees.{TestTree, picked}
+use Rattle.lx_layout.specs.TreeCodes.{inner_blocks, tree_code}
 use Rattle.lx_layout.proofs.BlockLayouts.Questions.{FitsTable}
 use Rattle.lx_layout.proofs.Carrying.MachineSteps.{need_walk, tree_walk}
 use Rattle.lx_layout.proofs.Carrying.SilentTraces.{Walks, stays, walk_on, walk_peek, walk_step}

@@ -15,7 +15,8 @@ use Rattle.lx_layout.specs.Plans.{unlabelled}
 use Rattle.lx_layout.specs.RuleEnds.{endings_of}
 use Rattle.lx_layout.specs.SuppliedLayout.{EachReader, end_rule_part, supplied_layout}
 use Rattle.lx_layout.specs.Supplies.{Reader, Supply}
-use Rattle.lx_layout.specs.TestTrees.{IsTreeOf, TestTree}
+use Rattle.lx_dispatch.specs.Dispatch.{AreTestsOf}
+use Rattle.lx_dispatch.specs.TestTrees.{TestTree}
 use Rattle.lx_layout.specs.declared.copies.Front.{Front}
 use Rattle.lx_layout.specs.declared.demands.PartInput.{PartInput}
 use Rattle.lx_layout.proofs.Fronts.MovedFronts.{front-moved, supplied-parts}
@@ -56,7 +57,9 @@ module _ (front : Front) (input : PartInput) (by : ℕ) (is : IsFront front) (li
       let trees = trees_at front.ends.plans in
       let eof : (seen_demand input.demand).eof ≡ own.demand.eof = ap (λ (d : Demand). d.eof) like.demand in
       let marked = halting-renumbered by own.auto.now own.demand.eof own.end_rule input.end_rule like.end_rule own.greatest halting is.ends.plans.marked in
-      let planned = trees-renumbered by own.auto.now own.demand.eof own.greatest trees (trees_planned front.ends.plans is.ends.plans) in
+      let format = own.demand.asking.format in
+      let table = own.demand.asking.sets.now.table.items in
+      let planned = trees-renumbered by own.auto.now (AreTestsOf format table own.demand.eof own.greatest) own.demand.eof own.greatest trees (trees_planned front.ends.plans is.ends.plans) in
       record {
         is = refl;
         marked =
@@ -64,9 +67,10 @@ module _ (front : Front) (input : PartInput) (by : ℕ) (is : IsFront front) (li
             (subst (λ n. AreHalting own.demand.eof input.end_rule n (renumbered by input.auto.now) halting) (sym like.greatest)
             (subst (λ (a : Auto). AreHalting own.demand.eof input.end_rule own.greatest (renumbered by a) halting) (sym like.auto) marked));
         trees =
-            subst (λ n. EachReader IsTreeOf n input.greatest trees (renumbered by input.auto.now)) (sym eof)
-            (subst (λ n. EachReader IsTreeOf own.demand.eof n trees (renumbered by input.auto.now)) (sym like.greatest)
-            (subst (λ (a : Auto). EachReader IsTreeOf own.demand.eof own.greatest trees (renumbered by a)) (sym like.auto) planned));
+            subst (λ (d : Demand). EachReader (AreTestsOf d.format d.table d.eof input.greatest) d.eof input.greatest trees (renumbered by input.auto.now)) (sym like.demand)
+            (subst (λ n. EachReader (AreTestsOf format table own.demand.eof n) own.demand.eof n trees (renumbered by input.auto.now)) (sym like.greatest)
+            (subst (λ (a : Auto). EachReader (AreTestsOf format table own.demand.eof own.greatest) own.demand.eof own.greatest trees (renumbered by a)) (sym like.auto)
+            planned));
       }
 
   pub copied-codes : (begin first : ℕ) → part_codes copied_part begin first ≡ copied_codes front input by begin first

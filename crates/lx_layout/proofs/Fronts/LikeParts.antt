@@ -45,38 +45,38 @@ like-among first (one ∷ scanners) zero scanner within is all =
 like-among first (one ∷ scanners) (suc index) scanner within is all =
     like-among first scanners index scanner (omega (arith, within)) is all.1
 
-module _ (form : Form) (front : Option Front) where
+module _ (form : Form) (table : List ℕ) (front : Option Front) where
   like-front : (first : ScannerInput) (scanner : ScannerInput) → is_some front ≡ true
-      → IfSome front (λ one. IsFrontOf form first one) → IsLike first scanner → HasFront form front scanner
+      → IfSome front (λ one. IsFrontOf form table first one) → IsLike first scanner → HasFront form table front scanner
   like-front first scanner some are like = by front some are
     where
-      by : (f : Option Front) → is_some f ≡ true → IfSome f (λ one. IsFrontOf form first one) → HasFront form f scanner
+      by : (f : Option Front) → is_some f ≡ true → IfSome f (λ one. IsFrontOf form table first one) → HasFront form table f scanner
       by None some are = absurd (false≢true some)
       by (Some one) some are = (first, are, like)
 
   front-for : (first : ScannerInput) (others : List ScannerInput)
-      → IfSome front (λ one. (head : ScannerInput) (tail : List ScannerInput) → first ∷ others ≡ head ∷ tail → IsFrontOf form head one)
-      → IfSome front (λ one. IsFrontOf form first one)
+      → IfSome front (λ one. (head : ScannerInput) (tail : List ScannerInput) → first ∷ others ≡ head ∷ tail → IsFrontOf form table head one)
+      → IfSome front (λ one. IsFrontOf form table first one)
   front-for first others are = by front are
     where
       by : (f : Option Front)
-          → IfSome f (λ one. (head : ScannerInput) (tail : List ScannerInput) → first ∷ others ≡ head ∷ tail → IsFrontOf form head one)
-          → IfSome f (λ one. IsFrontOf form first one)
+          → IfSome f (λ one. (head : ScannerInput) (tail : List ScannerInput) → first ∷ others ≡ head ∷ tail → IsFrontOf form table head one)
+          → IfSome f (λ one. IsFrontOf form table first one)
       by None are = tt
       by (Some one) are = are first others refl
 
   pub front-at : (scanners : List ScannerInput) (index : ℕ) (scanner : ScannerInput) → index < length scanners
       → scanner ≡ slice_index_or scanners index scanner → AreLike scanners
       → (list_any is_like scanners ≡ true → is_some front ≡ true)
-      → IfSome front (λ one. (first : ScannerInput) (others : List ScannerInput) → scanners ≡ first ∷ others → IsFrontOf form first one)
-      → IfSome scanner.by (λ by. HasFront form front scanner)
+      → IfSome front (λ one. (first : ScannerInput) (others : List ScannerInput) → scanners ≡ first ∷ others → IsFrontOf form table first one)
+      → IfSome scanner.by (λ by. HasFront form table front scanner)
   front-at [] index scanner within is all there are = absurd (omega (arith, within))
   front-at (first ∷ others) zero scanner within is all there are =
-      subst (λ (n : Option ℕ). IfSome n (λ by. HasFront form front scanner)) (sym (ap (λ (s : ScannerInput). s.by) is ∙ all.0)) tt
+      subst (λ (n : Option ℕ). IfSome n (λ by. HasFront form table front scanner)) (sym (ap (λ (s : ScannerInput). s.by) is ∙ all.0)) tt
   front-at (first ∷ others) (suc index) scanner within is all there are =
       by scanner.by refl (like-among first others index scanner (omega (arith, within)) is all.1)
     where
-      by : (n : Option ℕ) → scanner.by ≡ n → IfSome n (λ by. IsLike first scanner) → IfSome n (λ by. HasFront form front scanner)
+      by : (n : Option ℕ) → scanner.by ≡ n → IfSome n (λ by. IsLike first scanner) → IfSome n (λ by. HasFront form table front scanner)
       by None e like = tt
       by (Some n) e like =
           like-front first scanner
@@ -152,13 +152,13 @@ module _ (form : Form) (conds : List (List ℕ)) (scanner : ScannerInput) (fit :
 
 -- ---- a scanner that is like that of a front
 
-module _ (form : Form) (first scanner : ScannerInput) (front : Front) (is : IsFrontOf form first front) (like : IsLike first scanner) where
-  pub like-of : (input : PartInput) → given_by scanner.by (seen_given input) ≡ given_of form (seen_source scanner)
+module _ (form : Form) (table : List ℕ) (first scanner : ScannerInput) (front : Front) (is : IsFrontOf form table first front) (like : IsLike first scanner) where
+  pub like-of : (input : PartInput) → given_by scanner.by (seen_given input) ≡ given_of form table (seen_source scanner)
       → input.greatest ≡ greatest_unit form.enc → input.auto.now ≡ scanner.auto.now → input.end_rule ≡ scanner.end_rule → IsLikeFront front input
   like-of input given greatest auto end_rule =
       let own = front.ends.plans.input in
-      let demand : seen_demand input.demand ≡ demand_of form scanner.checks.now = ap (λ (g : Given). g.demand) given in
-      let same : demand_of form scanner.checks.now ≡ demand_of form first.checks.now = ap (λ l. demand_of form l) like.checks in
+      let demand : seen_demand input.demand ≡ demand_of form table scanner.checks.now = ap (λ (g : Given). g.demand) given in
+      let same : demand_of form table scanner.checks.now ≡ demand_of form table first.checks.now = ap (λ l. demand_of form table l) like.checks in
       let ends : own.end_rule ≡ first.end_rule = ap (λ (g : Given). g.end_rule) is.given in
       let autos : own.auto.now ≡ first.auto.now =
       ap (λ (g : Given). g.auto) is.given ∙ ap (λ (n : Option ℕ). based n first.auto.now) is.own in

@@ -13,8 +13,8 @@ use Rattle.lx_layout.specs.Halting.{Halting, halted_accept, is_entered, saved_ac
 use Rattle.lx_layout.specs.Layout.{end_blocks, restore_blocks}
 use Rattle.lx_layout.specs.SuppliedLayout.{at_end_blocks, at_end_size, blocks_by, class_blocks, end_rule_block, entry_blocks, entry_part, entry_tests_size, entry_way, fall_block, fallback_part, first_restore, lone_number, place_of, reader_blocks, rule_block, size_at_end, state_blocks, state_end, state_size, state_to, state_way, states_begin, states_blocks, states_part, supplied_layout, tests_of, turn_begin, turn_of, with_blocks}
 use Rattle.lx_layout.specs.Supplies.{Reader, Supply, entry, state}
-use Rattle.lx_layout.specs.TestTrees.{TestTree}
-use Rattle.lx_layout.specs.TransitionClasses.{transition_classes}
+use Rattle.lx_dispatch.specs.TestTrees.{TestTree}
+use Rattle.lx_dispatch.specs.TransitionClasses.{transition_classes}
 use Rattle.lx_layout.proofs.Fronts.MovedCodes.{append-moved, class_blocks-moved, end_blocks-moved, fallback_part-moved, kept-moved, lone_blocks-moved, restore_blocks-moved}
 use Rattle.lx_layout.proofs.Fronts.MovedPlaces.{end_rule_block-moved, entry_way-moved, fall_block-moved, first_restore-moved, place_of-moved, rule_block-moved, size_at_end-moved, state_end-moved, state_size-moved, state_to-moved, state_way-moved, states_begin-moved, turn_begin-moved}
 use Rattle.lx_layout.proofs.Fronts.MovedReaders.{blocks_at_end-moved, reader_blocks-moved}

@@ -12,8 +12,8 @@ use Rattle.lx_layout.specs.Halting.{Halting, halted_accept, is_entered}
 use Rattle.lx_layout.specs.Layout.{class_block, end_block, end_size, lone_place, own_block}
 use Rattle.lx_layout.specs.SuppliedLayout.{at_end_size, classes_begin, end_of, end_rule_block, entry_part_size, entry_tests_size, entry_way, fall_block, first_restore, first_rule, lone_number, own_end, place_by, place_in, place_of, refill_size, rule_block, size_at_end, size_in, sized, state_end, state_size, state_to, state_way, states_begin, tests_size, turn_begin, turn_size}
 use Rattle.lx_layout.specs.Supplies.{Reader, Supply}
-use Rattle.lx_layout.specs.TestTrees.{TestTree}
-use Rattle.lx_layout.specs.TransitionClasses.{edge_class, same_place, transition_classes}
+use Rattle.lx_dispatch.specs.TestTrees.{TestTree}
+use Rattle.lx_dispatch.specs.TransitionClasses.{edge_class, same_place, transition_classes}
 
 -- where what reads is stored by greater numbers there are as many blocks at the end of the input
 refill_size-moved : (stored : ℕ) (tries : Bool) (numbers numbers_on : Option (Reader → ℕ)) → StoredBehind stored numbers_on numbers

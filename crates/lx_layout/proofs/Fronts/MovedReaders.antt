@@ -5,8 +5,9 @@ use Rattle.lx_ccode.specs.declared.piece.Stmt.TheVariants.{Goto, IfIs, IfSet, If
 use Rattle.lx_layout.specs.Copies.{StoredBehind, moved, moved_case, moved_codes}
 use Rattle.lx_layout.specs.SuppliedLayout.{blocks_at_end, check_blocks, read_blocks, reader_blocks, refill_blocks, with_blocks}
 use Rattle.lx_layout.specs.Supplies.{Reader}
-use Rattle.lx_layout.specs.TestTrees as trees
-use Rattle.lx_layout.specs.TestTrees.{Question, TestTree, among, asks, at_most, cases_by, fork, inner_blocks, inner_size, leaf, switch, switch_cases, test, tree_code}
+use Rattle.lx_dispatch.specs.TestTrees as trees
+use Rattle.lx_dispatch.specs.TestTrees.{Question, TestTree, among, at_most, cases_by, fork, leaf, switch, test}
+use Rattle.lx_layout.specs.TreeCodes.{asks, inner_blocks, inner_size, switch_cases, tree_code}
 use Rattle.lx_layout.proofs.Fronts.MovedCodes.{append-moved, back_code-moved, end_test-moved, need_code-moved, try_code-moved}
 use Rattle.lx_layout.proofs.SuppliedLayouts.Readers.{inner_size-with_blocks}
 

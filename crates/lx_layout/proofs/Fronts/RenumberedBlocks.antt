@@ -14,10 +14,10 @@ use Rattle.lx_layout.specs.Halting.{Halting, halted_accept, saves_on}
 use Rattle.lx_layout.specs.Layout.{class_block, end_block, end_blocks, lone_blocks, lone_place, saved_number}
 use Rattle.lx_layout.specs.SuppliedLayout.{at_end_blocks, blocks_at_end, blocks_by, class_blocks, entry_blocks, entry_tests_size, entry_way, kept, lone_number, own_end, place_by, place_in, reader_blocks, refill_blocks, state_end, state_size, state_to, state_way, states_blocks, tests_of, turn_begin, turn_of, with_blocks}
 use Rattle.lx_layout.specs.Supplies.{Reader, Supply, entry, state as by_state}
-use Rattle.lx_layout.specs.TestTrees.{TestTree, fork, leaf, switch, test}
-use Rattle.lx_layout.specs.TransitionClasses.{edge_class, same_place, transition_classes}
+use Rattle.lx_dispatch.specs.TestTrees.{TestTree, fork, leaf, switch, test}
+use Rattle.lx_dispatch.specs.TransitionClasses.{edge_class, same_place, transition_classes}
 use Rattle.lx_renumber.specs.Renumbered.{renumbered, renumbered_accept, renumbered_state}
-use Rattle.lx_layout.proofs.BlockLayouts.Questions.{cases_by-same}
+use Rattle.lx_dispatch.proofs.Cases.{cases_by-same}
 use Rattle.lx_layout.proofs.Fronts.RenumberedAccepts.{all, halted-renumbered, is_some-renumbered, saved_number-renumbered}
 use Rattle.lx_layout.proofs.Fronts.RenumberedEnds.{end_block-renumbered, end_blocks-renumbered, lone_blocks-renumbered, lone_place-renumbered}
 use Rattle.lx_layout.proofs.Fronts.RenumberedMarks.{is_entered-renumbered}

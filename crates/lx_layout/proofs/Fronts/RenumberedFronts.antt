@@ -11,7 +11,7 @@ use Rattle.lx_layout.specs.Halting.{Halting, saved_accepts}
 use Rattle.lx_layout.specs.Layout.{choices_from, restore_blocks}
 use Rattle.lx_layout.specs.SuppliedLayout.{end_rule_block, entry_blocks, entry_part, fall_block, fallback_part, first_restore, kept, place_in, place_of, rule_block, states_begin, states_blocks, states_part}
 use Rattle.lx_layout.specs.Supplies.{Reader, Supply}
-use Rattle.lx_layout.specs.TestTrees.{TestTree}
+use Rattle.lx_dispatch.specs.TestTrees.{TestTree}
 use Rattle.lx_renumber.specs.Renumbered.{renumbered}
 use Rattle.lx_layout.proofs.Fronts.RenumberedAccepts.{any_falls-renumbered, choices_from-renumbered, saved_accepts-renumbered, state_of-renumbered}
 use Rattle.lx_layout.proofs.Fronts.RenumberedBlocks.{entry_blocks-renumbered, place_in-renumbered, states_blocks-renumbered}

@@ -13,8 +13,9 @@ use Rattle.lx_layout.specs.Halting.{AreHalting, Falls, Halting, Halts, at_end, b
 use Rattle.lx_layout.specs.Parts.{Demand, asked, asked_below, asks_by, asks_with, one_if, state_asks}
 use Rattle.lx_layout.specs.SuppliedLayout.{EachReader, EachState}
 use Rattle.lx_layout.specs.Supplies.{Reader, entry}
-use Rattle.lx_layout.specs.TestTrees.{IsTreeOf, TestTree}
-use Rattle.lx_layout.specs.UnitApart.{reader_split}
+use Rattle.lx_dispatch.specs.TestTrees.{TestTree}
+use Rattle.lx_dispatch.specs.TransitionClasses.{Split}
+use Rattle.lx_dispatch.specs.UnitApart.{reader_split}
 use Rattle.lx_renumber.specs.Renumbered.{renumbered, renumbered_accept, renumbered_state}
 use Rattle.lx_layout.proofs.Fronts.RenumberedAccepts.{ended_accepts-renumbered, state_of-renumbered}
 
@@ -95,16 +96,16 @@ module _ (by : ℕ) where
 
     -- ---- trees
 
-    module _ (eof : Option ℕ) (greatest : ℕ) (trees : Reader → TestTree (Option ℕ)) where
-      EachState-renumbered : (number : ℕ) (states : List State) → EachState IsTreeOf eof greatest trees number states
-          → EachState IsTreeOf eof greatest trees number (map (renumbered_state by) states)
+    module _ (P : Split → TestTree (Option ℕ) → Type 0) (eof : Option ℕ) (greatest : ℕ) (trees : Reader → TestTree (Option ℕ)) where
+      EachState-renumbered : (number : ℕ) (states : List State) → EachState P eof greatest trees number states
+          → EachState P eof greatest trees number (map (renumbered_state by) states)
       EachState-renumbered number [] are = tt
       EachState-renumbered number (given ∷ states) are = (are.0, EachState-renumbered (suc number) states are.1)
 
-      pub trees-renumbered : EachReader IsTreeOf eof greatest trees auto → EachReader IsTreeOf eof greatest trees (renumbered by auto)
+      pub trees-renumbered : EachReader P eof greatest trees auto → EachReader P eof greatest trees (renumbered by auto)
       trees-renumbered are = record {
         states = EachState-renumbered 0 auto.states are.states;
-        entry = subst (λ edges. IsTreeOf (reader_split eof greatest edges) (trees entry)) (sym (edges-renumbered 0)) are.entry;
+        entry = subst (λ edges. P (reader_split eof greatest edges) (trees entry)) (sym (edges-renumbered 0)) are.entry;
       }
 
     -- ---- refills

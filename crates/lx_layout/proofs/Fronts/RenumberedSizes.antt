@@ -10,8 +10,8 @@ use Rattle.lx_layout.specs.Halting.{Halting, ended_accepts, halted_accept, saved
 use Rattle.lx_layout.specs.Layout.{end_size, lone_size, rule_place}
 use Rattle.lx_layout.specs.SuppliedLayout.{at_end_size, classes_begin, end_of, end_rule_block, entry_part_size, fall_block, first_restore, first_rule, lone_number, own_end, reader_size, rule_block, size_in, sized, state_size, states_begin, tests_size, turn_begin, turn_size}
 use Rattle.lx_layout.specs.Supplies.{Reader, Supply, state as by_state}
-use Rattle.lx_layout.specs.TestTrees.{TestTree}
-use Rattle.lx_layout.specs.TransitionClasses.{transition_classes}
+use Rattle.lx_dispatch.specs.TestTrees.{TestTree}
+use Rattle.lx_dispatch.specs.TransitionClasses.{transition_classes}
 use Rattle.lx_renumber.specs.Renumbered.{renumbered, renumbered_accept, renumbered_state}
 use Rattle.lx_layout.proofs.Fronts.RenumberedAccepts.{any_falls-renumbered, ended_accepts-renumbered, halted-renumbered, rule_place-renumbered, saved_accepts-renumbered}
 use Rattle.lx_layout.proofs.Fronts.RenumberedEnds.{end_size-renumbered, lone_size-renumbered}

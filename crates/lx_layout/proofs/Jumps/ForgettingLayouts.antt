@@ -1,5 +1,5 @@
 -- Layouts in which what was kept is forgotten before jumps are those of the same scanners, with other ends of rules.
-use Rattle.std.specs.Prelude.{◌≡◌, ℕ, suc, ◌+◌, Bool, true, false, List, [], ◌∷◌, ◌++◌, length, map, Option, Some, None, refl}
+use Rattle.std.specs.Prelude.{◌≡◌, ℕ, suc, ◌+◌, true, false, List, [], ◌∷◌, ◌++◌, length, map, Option, Some, None, refl}
 use Rattle.std.proofs.Common.{sym, ap, ap₂, ◌∙◌, subst, true≢false}
 use Rattle.std.proofs.lemmas.List.{length-map, map-append}
 use Rattle.std.specs.List.{AllByRecursion}
@@ -20,14 +20,15 @@ use Rattle.lx_layout.specs.Parts.{Part, given_asked, given_supply, labelled, par
 use Rattle.lx_layout.specs.Plans.{unlabelled}
 use Rattle.lx_layout.specs.SuppliedLayout.{EachReader, end_rule_part, supplied_layout}
 use Rattle.lx_layout.specs.Supplies.{Reader, Supply}
-use Rattle.lx_layout.specs.TestTrees.{IsTreeOf, TestTree, TestsWithin}
+use Rattle.lx_dispatch.specs.TestTrees.{TestTree}
 use Rattle.lx_layout.proofs.Fronts.MovedFronts.{supplied-parts}
 use Rattle.lx_layout.proofs.Jumps.ForgettingCodes.{forgetting-append, forgetting-none, jumps_none}
 use Rattle.lx_layout.proofs.Rules.EndCodes.{ending_code-parts}
 use Rattle.lx_layout.proofs.ScannerLaws.InnerCodes.{acting, acts, inner_acts, sorts_ok}
-use Rattle.lx_layout.proofs.SuppliedLayouts.CarriedLayouts.{each_reader}
 use Rattle.lx_layout.proofs.SuppliedLayouts.HeldLayouts.{each_from-all, layout_any}
 use Rattle.lx_layout.proofs.Validity.EachElement.{each-front}
+use Rattle.lx_layout.proofs.PartLayouts.ClosedParts.{part_leads}
+use Rattle.lx_layout.proofs.SuppliedLayouts.LeadingTrees.{LeadsWithin}
 
 -- ---- the end of a rule
 
@@ -101,7 +102,7 @@ forgetting-acts (code ∷ codes) h =
     ap₂ (λ one all. one ∷ all) (forgetting-none code (jumps_none code (no_jumps code h.0))) (forgetting-acts codes h.1)
 
 module _ (supply : Supply) (halting : Halting) (end_rule : Option ℕ) (greatest : ℕ) (trees : Reader → TestTree (Option ℕ)) (auto : Auto) (begin : ℕ)
-    (formed : IsAuto auto) (are : EachReader TestsWithin supply.eof greatest trees auto) where
+    (formed : IsAuto auto) (are : EachReader LeadsWithin supply.eof greatest trees auto) where
   abbrev front : List (List Stmt)
   front = front_layout supply halting end_rule trees auto begin
 
@@ -140,7 +141,7 @@ part_codes-forgetting : (greatest begin first : ℕ) (part : Part) → IsFormed 
     → part_codes (forgetful_part part) begin first ≡ map forgetting (part_codes part begin first)
 part_codes-forgetting greatest begin first part formed keeps =
     layout-forgetting (given_supply part.given first) part.halting part.given.end_rule greatest part.trees part.given.auto begin formed.auto
-    (each_reader IsTreeOf TestsWithin (λ split tree is. is.ends) part.given.demand.eof greatest part.trees part.given.auto formed.chosen.trees)
+    (part_leads greatest part formed)
     part.given.endings keeps
 
 unlabelled-forgetting : (codes : List (List Stmt)) → unlabelled (map forgetting codes) ≡ map forgetting_block (unlabelled codes)

@@ -1,21 +1,23 @@
 -- Scanners that stand in blocks with what was kept forgotten before jumps.
-use Rattle.std.specs.Prelude.{◌≡◌, ◌≢◌, ◌⊎◌, ℕ, suc, ◌+◌, ◌*◌, ◌<◌, Bool, true, false, All, List, [], ◌∷◌, ◌++◌, length, map, nat_eq, Option, Some, None, IfSome, refl, if◌then◌else◌}
+use Rattle.std.specs.Prelude.{◌≡◌, ◌≢◌, ◌⊎◌, ℕ, ◌<◌, Bool, true, false, List, [], ◌∷◌, length, map, nat_eq, Option, Some, None, IfSome, refl, if◌then◌else◌}
 use Rattle.std.proofs.Common.{sym, ap, ap₂, ◌∙◌, subst, true≢false}
 use Rattle.std.proofs.Math.Path.{fun_ext}
 use Rattle.std.proofs.lemmas.List.{length-map}
 use Rattle.std.proofs.lemmas.List.Elements.{All-from_recursion, recursion_from_All}
-use Rattle.std.specs.List.{AllByRecursion}
+use Rattle.std.specs.List.{AllByRecursion, list_any}
 use Rattle.lx_auto.specs.declared.automaton.Accept.{Accept}
 use Rattle.lx_auto.specs.declared.automaton.State.{State}
 use Rattle.lx_base.specs.Names.{Spellings}
 use Rattle.lx_base.specs.Spelling.{greatest_unit}
+use Rattle.lx_ccode.specs.Labels.{is_like_block}
 use Rattle.lx_ccode.specs.declared.piece.CodeBlock.{CodeBlock}
+use Rattle.lx_dispatch.specs.Dispatch.{IsTable}
 use Rattle.lx_layout.specs.Endings.{Ending}
 use Rattle.lx_layout.specs.Forgetting.{JumpsForget, any_tests_kept, forgetting_block, forgetting_blocks, forgetting_by, forgets_before_jumps}
 use Rattle.lx_layout.specs.FormedParts.{AreFormed}
-use Rattle.lx_layout.specs.Parts.{Given, IsPartOf, Part, parts_blocks}
-use Rattle.lx_layout.specs.PieceViews.{seen_source, seen_sources}
-use Rattle.lx_layout.specs.Pieces.{AreFit, ArePartsOf, FitsAccept, FitsEnd, Form, HaveDifferentConditions, IsActionOf, IsFitScanner, Source, conds_of, given_of, onto_conds, source_in, sources_in}
+use Rattle.lx_layout.specs.Parts.{Given, Part, parts_blocks}
+use Rattle.lx_layout.specs.PieceViews.{seen_sources}
+use Rattle.lx_layout.specs.Pieces.{AreFit, ArePartsOf, FitsAccept, FitsEnd, Form, HaveDifferentConditions, IsFitScanner, Source, conds_of, given_of, onto_conds, source_in, sources_in}
 use Rattle.lx_layout.specs.RuleEnds.{ending_of, endings_of}
 use Rattle.lx_layout.specs.Writable.{CanBeWritten}
 use Rattle.lx_layout.specs.declared.pieces.ScannerInput.{ScannerInput}
@@ -75,6 +77,7 @@ module _ (blocks : List CodeBlock) where
         (λ state fits. accepts_in form.names conds (any_tests_kept blocks) scanner.endings state.accept fits) scanner.auto.states
         (recursion_from_All _ scanner.auto.states fit.accepts));
     checks = fit.checks;
+    tags = fit.tags;
     end = end_in form conds scanner scanner.end_rule fit.end;
   }
 
@@ -109,6 +112,8 @@ module _ (blocks : List CodeBlock) where
         names = fit.names;
         names_differ = fit.names_differ;
         no_primitive = fit.no_primitive;
+        no_table = fit.no_table;
+        no_block_label = λ three. subst (λ list. list_any (is_like_block form.number form.names) list ≡ false) conds (fit.no_block_label three);
         line = fit.line;
       }
 
@@ -133,7 +138,7 @@ keep-given (scanner ∷ scanners) = (keeps-given scanner.ends.now, keep-given sc
 same_endings : (endings : ℕ → Ending) → AllKeep endings → forgetting_by false endings ≡ endings
 same_endings endings keeps = fun_ext (λ rule. ap (λ t. record (endings rule) { forgets = t }) (sym (keeps rule)))
 
-module _ (form : Form) where
+module _ (form : Form) (table : List ℕ) where
   -- ---- parts of scanners, where the ends of rules are told
 
   parts_same : (blocks : List CodeBlock) → any_tests_kept blocks ≡ false → (scanners : List Source) → AllSourcesKeep scanners
@@ -147,21 +152,21 @@ module _ (form : Form) where
       (parts_same blocks none scanners keep.1)
 
   forgetful_parts : (blocks : List CodeBlock) → any_tests_kept blocks ≡ true → (scanners : List Source) (parts : List Part)
-      → ArePartsOf form scanners parts → ArePartsOf form (sources_in blocks scanners) (map forgetful_part parts)
+      → ArePartsOf form table scanners parts → ArePartsOf form table (sources_in blocks scanners) (map forgetful_part parts)
   forgetful_parts blocks some [] [] are = tt
   forgetful_parts blocks some [] (part ∷ parts) are = absurd are
   forgetful_parts blocks some (scanner ∷ scanners) [] are = absurd are
   forgetful_parts blocks some (scanner ∷ scanners) (part ∷ parts) are = (
     record {
       is = ap {A = Given} (λ given. record given { endings = forgetting_by true given.endings }) are.0.is
-          ∙ ap {B = Given} (λ t. record (given_of form scanner) { endings = forgetting_by t scanner.endings }) (sym some);
+          ∙ ap {B = Given} (λ t. record (given_of form table scanner) { endings = forgetting_by t scanner.endings }) (sym some);
       marked = are.0.marked;
       trees = are.0.trees;
     },
     forgetful_parts blocks some scanners parts are.1,
   )
 
-  keep_parts : (scanners : List Source) (parts : List Part) → ArePartsOf form scanners parts → AllSourcesKeep scanners → AllPartsKeep parts
+  keep_parts : (scanners : List Source) (parts : List Part) → ArePartsOf form table scanners parts → AllSourcesKeep scanners → AllPartsKeep parts
   unfolding AllSourcesKeep
   keep_parts [] [] are keep = tt
   keep_parts [] (part ∷ parts) are keep = absurd are
@@ -171,23 +176,23 @@ module _ (form : Form) where
 
   -- ---- the blocks of scanners
 
-  module _ (given : List ScannerInput) (fit : AreFit form (seen_sources given)) (laid blocks : List CodeBlock)
-      (told : blocks ≡ forgetting_blocks (any_tests_kept laid) laid) (parts : List Part) (are : ArePartsOf form (seen_sources given) parts)
+  module _ (is_table : IsTable table) (given : List ScannerInput) (fit : AreFit form (seen_sources given)) (laid blocks : List CodeBlock)
+      (told : blocks ≡ forgetting_blocks (any_tests_kept laid) laid) (parts : List Part) (are : ArePartsOf form table (seen_sources given) parts)
       (same : laid ≡ parts_blocks 0 form.first_state parts) where
     formed : AreFormed (greatest_unit form.enc) parts
-    formed = are_formed form (conds_of (seen_sources given)) (seen_sources given) parts (recursion_from_All _ (seen_sources given) fit.each) are
+    formed = are_formed form table (conds_of (seen_sources given)) is_table (seen_sources given) parts (recursion_from_All _ (seen_sources given) fit.each) are
 
     abbrev AreLaid : Type 0
-    AreLaid = (list : List Part) × ArePartsOf form (sources_in blocks (seen_sources given)) list × (blocks ≡ parts_blocks 0 form.first_state list)
+    AreLaid = (list : List Part) × ArePartsOf form table (sources_in blocks (seen_sources given)) list × (blocks ≡ parts_blocks 0 form.first_state list)
 
-    pub forgetting_laid : (list : List Part) × ArePartsOf form (sources_in blocks (seen_sources given)) list
+    pub forgetting_laid : (list : List Part) × ArePartsOf form table (sources_in blocks (seen_sources given)) list
         × (blocks ≡ parts_blocks 0 form.first_state list)
     forgetting_laid = by (any_tests_kept laid) refl told
       where
         by : (t : Bool) → any_tests_kept laid ≡ t → blocks ≡ forgetting_blocks t laid → AreLaid
         by false none is = (
           parts,
-          subst (λ list. ArePartsOf form list parts)
+          subst (λ list. ArePartsOf form table list parts)
               (sym (parts_same blocks (ap any_tests_kept is ∙ none) (seen_sources given) (keep-given given))) are,
           is ∙ same,
         )

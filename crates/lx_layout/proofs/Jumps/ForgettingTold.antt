@@ -55,10 +55,10 @@ module _ (forgets : Bool) where
       (right stream start schedule registers histories within word legal onward empty answered)
 
 -- a scanner that stands in a piece as it does in its blocks stands in it as it is given
-pub as_given : (mode : Mode) (form : Form) (scanner : Source) (piece : Piece)
-    → IsScannerIn mode form.enc (given_of form (source_in piece.blocks scanner)) scanner.checks piece
-    → IsScannerIn mode form.enc (given_of form scanner) scanner.checks piece
-as_given mode form scanner piece stands = record {
+pub as_given : (mode : Mode) (form : Form) (table : List ℕ) (scanner : Source) (piece : Piece)
+    → IsScannerIn mode form.enc (given_of form table (source_in piece.blocks scanner)) scanner.checks piece
+    → IsScannerIn mode form.enc (given_of form table scanner) scanner.checks piece
+as_given mode form table scanner piece stands = record {
   entry = stands.entry;
   begins = stands.begins;
   carries = stands.carries;

@@ -11,8 +11,10 @@ use Rattle.lx_layout.specs.Plans.{unlabelled}
 use Rattle.lx_layout.specs.RuleEnds.{endings_of}
 use Rattle.lx_layout.specs.SuppliedLayout.{EachReader, EachState, supplied_layout}
 use Rattle.lx_layout.specs.Supplies.{Reader, entry, state}
-use Rattle.lx_layout.specs.TestTrees.{IsTreeOf, TestTree}
-use Rattle.lx_layout.specs.UnitApart.{reader_split}
+use Rattle.lx_base.specs.declared.settings.Format.{Format}
+use Rattle.lx_dispatch.specs.Dispatch.{AreTestsOf}
+use Rattle.lx_dispatch.specs.TestTrees.{TestTree}
+use Rattle.lx_dispatch.specs.UnitApart.{reader_split}
 use Rattle.lx_layout.specs.declared.demands.PartInput.{PartInput}
 use Rattle.lx_layout.specs.declared.state_plans.PartPlans.{PartPlans}
 use Rattle.lx_layout.specs.declared.state_plans.StatePlan.{StatePlan}
@@ -58,34 +60,37 @@ unlabelled-parts front first states fallback restores =
 
 -- ---- the trees
 
-planned_from : (eof : Option ℕ) (greatest number : ℕ) (trees : Reader → TestTree (Option ℕ)) (plans : List StatePlan)
-    → ((n : ℕ) → trees (state (number + n)) ≡ trees_of plans (state n)) → AreStatePlans eof greatest plans
-    → EachState IsTreeOf eof greatest trees number (planned_states plans)
-planned_from eof greatest number trees [] same are = tt
-planned_from eof greatest number trees (plan ∷ plans) same are =
+planned_from : (format : Format) (table : List ℕ) (eof : Option ℕ) (greatest number : ℕ) (trees : Reader → TestTree (Option ℕ)) (plans : List StatePlan)
+    → ((n : ℕ) → trees (state (number + n)) ≡ trees_of plans (state n)) → AreStatePlans format table eof greatest plans
+    → EachState (AreTestsOf format table eof greatest) eof greatest trees number (planned_states plans)
+planned_from format table eof greatest number trees [] same are = tt
+planned_from format table eof greatest number trees (plan ∷ plans) same are =
     let here : number ≡ number + 0 = omega arith in (
-      subst (λ tree. IsTreeOf (reader_split eof greatest plan.state.now.edges) tree) (sym (ap (λ n. trees (state n)) here ∙ same 0)) are.0.tests,
-      planned_from eof greatest (suc number) trees plans
+      subst (λ tree. AreTestsOf format table eof greatest (reader_split eof greatest plan.state.now.edges) tree) (sym (ap (λ n. trees (state n)) here ∙ same 0)) are.0.tests,
+      planned_from format table eof greatest (suc number) trees plans
           (λ n. let next : suc number + n ≡ number + suc n = omega arith in ap (λ k. trees (state k)) next ∙ same (suc n)) are.1,
     )
 
-entry_planned : (eof : Option ℕ) (greatest : ℕ) (plans : List StatePlan) → AreStatePlans eof greatest plans → 0 < length plans
-    → IsTreeOf (reader_split eof greatest (state_of (planned_states plans) 0).edges) (trees_of plans entry)
-entry_planned eof greatest [] are some = absurd (omega (arith, some))
-entry_planned eof greatest (plan ∷ plans) are some = are.0.tests
+entry_planned : (format : Format) (table : List ℕ) (eof : Option ℕ) (greatest : ℕ) (plans : List StatePlan) → AreStatePlans format table eof greatest plans → 0 < length plans
+    → AreTestsOf format table eof greatest (reader_split eof greatest (state_of (planned_states plans) 0).edges) (trees_of plans entry)
+entry_planned format table eof greatest [] are some = absurd (omega (arith, some))
+entry_planned format table eof greatest (plan ∷ plans) are some = are.0.tests
 
 module _ (plans : PartPlans) (are : ArePlans plans) where
-  pub trees_planned : EachReader IsTreeOf plans.input.demand.eof plans.input.greatest (trees_at plans) plans.input.auto.now
+  pub trees_planned : EachReader (AreTestsOf plans.input.demand.asking.format plans.input.demand.asking.sets.now.table.items plans.input.demand.eof plans.input.greatest)
+      plans.input.demand.eof plans.input.greatest (trees_at plans) plans.input.auto.now
   trees_planned =
+      let format = plans.input.demand.asking.format in
+      let table = plans.input.demand.asking.sets.now.table.items in
       let eof = plans.input.demand.eof in
       let greatest = plans.input.greatest in
       let long = states_length plans are in
-      let trees = planned_from eof greatest 0 (trees_at plans) plans.states.items
+      let trees = planned_from format table eof greatest 0 (trees_at plans) plans.states.items
       (λ n. let same : 0 + n ≡ n = omega arith in ap (λ k. trees_at plans (state k)) same) are.planned in
-      let first = entry_planned eof greatest plans.states.items are.planned (omega (arith, long, are.formed.start)) in
+      let first = entry_planned format table eof greatest plans.states.items are.planned (omega (arith, long, are.formed.start)) in
       record {
-        states = subst (λ (l : List State). EachState IsTreeOf eof greatest (trees_at plans) 0 l) are.states trees;
-        entry = subst (λ (l : List State). IsTreeOf (reader_split eof greatest (state_of l 0).edges) (trees_at plans entry)) are.states first;
+        states = subst (λ (l : List State). EachState (AreTestsOf format table eof greatest) eof greatest (trees_at plans) 0 l) are.states trees;
+        entry = subst (λ (l : List State). AreTestsOf format table eof greatest (reader_split eof greatest (state_of l 0).edges) (trees_at plans entry)) are.states first;
       }
 
   pub part_laid : (input : PartInput) → plans.input ≡ input → (begin first : ℕ) → plans.begin ≡ begin → plans.first ≡ first

@@ -10,10 +10,10 @@ use Rattle.lx_layout.specs.declared.readers.Exits.{Exits}
 use Rattle.lx_layout.specs.declared.state_plans.PartPlans.{PartPlans}
 use Rattle.lx_layout.specs.SuppliedLayout.{kept, read_blocks, reader_blocks, with_blocks}
 use Rattle.lx_layout.specs.Supplies.{Reader, entry, state}
-use Rattle.lx_layout.specs.TestTrees.{TestTree, fork, leaf, switch, test}
-use Rattle.lx_layout.specs.TransitionClasses.{same_place, transition_classes}
+use Rattle.lx_dispatch.specs.TestTrees.{TestTree, fork, leaf, switch, test}
+use Rattle.lx_dispatch.specs.TransitionClasses.{same_place, transition_classes}
 use Rattle.lx_layout.specs.Ways.{constant, way_of}
-use Rattle.lx_layout.proofs.BlockLayouts.Questions.{cases_by-same}
+use Rattle.lx_dispatch.proofs.Cases.{cases_by-same}
 
 -- ---- by a number
 

@@ -62,12 +62,12 @@ pub all_asked-more : (parts : List Part) (part : Part) → all_asked (parts ++ p
 all_asked-more [] part = omega arith
 all_asked-more (own ∷ parts) part = let more = all_asked-more parts part in omega (arith, more)
 
-pub parts_of-more : (form : Form) (scanners : List Source) (parts : List Part) (scanner : Source) (part : Part) → ArePartsOf form scanners parts
-    → IsPartOf (greatest_unit form.enc) (given_of form scanner) part → ArePartsOf form (scanners ++ scanner ∷ []) (parts ++ part ∷ [])
-parts_of-more form [] [] scanner part are is = (is, tt)
-parts_of-more form [] (own ∷ parts) scanner part are is = absurd are
-parts_of-more form (first ∷ scanners) [] scanner part are is = absurd are
-parts_of-more form (first ∷ scanners) (own ∷ parts) scanner part are is = (are.0, parts_of-more form scanners parts scanner part are.1 is)
+pub parts_of-more : (form : Form) (table : List ℕ) (scanners : List Source) (parts : List Part) (scanner : Source) (part : Part) → ArePartsOf form table scanners parts
+    → IsPartOf (greatest_unit form.enc) (given_of form table scanner) part → ArePartsOf form table (scanners ++ scanner ∷ []) (parts ++ part ∷ [])
+parts_of-more form table [] [] scanner part are is = (is, tt)
+parts_of-more form table [] (own ∷ parts) scanner part are is = absurd are
+parts_of-more form table (first ∷ scanners) [] scanner part are is = absurd are
+parts_of-more form table (first ∷ scanners) (own ∷ parts) scanner part are is = (are.0, parts_of-more form table scanners parts scanner part are.1 is)
 
 -- ---- what is told of ends
 
@@ -123,24 +123,24 @@ module _ (form : Form) (conds : List (List ℕ)) (scanners : List ScannerInput) 
       ap seen_sources (take_more scanners index scanner within) ∙ map-append seen_source (take index scanners) (slice_index_or scanners index scanner ∷ [])
       ∙ ap (λ (s : ScannerInput). seen_sources (take index scanners) ++ seen_source s ∷ []) (sym is)
 
-  pub laid-more : (first next after greatest : ℕ) (given : Given) (blocks new : List CodeBlock)
-      → greatest ≡ greatest_unit form.enc → given ≡ given_of form (seen_source scanner)
-      → (parts : List Part) × ArePartsOf form (seen_sources (take index scanners)) parts × (blocks ≡ parts_blocks 0 first parts) × (next ≡ first + all_asked parts)
+  pub laid-more : (table : List ℕ) (first next after greatest : ℕ) (given : Given) (blocks new : List CodeBlock)
+      → greatest ≡ greatest_unit form.enc → given ≡ given_of form table (seen_source scanner)
+      → (parts : List Part) × ArePartsOf form table (seen_sources (take index scanners)) parts × (blocks ≡ parts_blocks 0 first parts) × (next ≡ first + all_asked parts)
       → (part : Part) × IsPartOf greatest given part × (new ≡ blocks ++ part_blocks part (length blocks) next)
       → after ≡ next + given_asked given
-      → (parts : List Part) × ArePartsOf form (seen_sources (take (index + 1) scanners)) parts × (new ≡ parts_blocks 0 first parts)
+      → (parts : List Part) × ArePartsOf form table (seen_sources (take (index + 1) scanners)) parts × (new ≡ parts_blocks 0 first parts)
       × (after ≡ first + all_asked parts)
-  laid-more first next after greatest given blocks new greatest_is given_is before laid after_is =
+  laid-more table first next after greatest given blocks new greatest_is given_is before laid after_is =
       let parts = before.0 in
       let part = laid.0 in
-      let chosen = subst (λ g. IsPartOf g (given_of form (seen_source scanner)) part) greatest_is (subst (λ g. IsPartOf greatest g part) given_is laid.1) in
+      let chosen = subst (λ g. IsPartOf g (given_of form table (seen_source scanner)) part) greatest_is (subst (λ g. IsPartOf greatest g part) given_is laid.1) in
       let at : length blocks ≡ 0 + length (parts_blocks 0 first parts) =
       ap (λ (l : List CodeBlock). length l) before.2 ∙ (let e : length (parts_blocks 0 first parts) ≡ 0 + length (parts_blocks 0 first parts) = omega arith in e) in
       let own : given_asked given ≡ given_asked part.given = ap given_asked (sym laid.1.is) in
       let more = all_asked-more parts part in (
         parts ++ part ∷ [],
-        subst (λ l. ArePartsOf form l (parts ++ part ∷ [])) (sym taken)
-            (parts_of-more form (seen_sources (take index scanners)) parts (seen_source scanner) part before.1 chosen),
+        subst (λ l. ArePartsOf form table l (parts ++ part ∷ [])) (sym taken)
+            (parts_of-more form table (seen_sources (take index scanners)) parts (seen_source scanner) part before.1 chosen),
         laid.2 ∙ ap (λ l. l ++ part_blocks part (length blocks) next) before.2
             ∙ ap₂ (λ n f. parts_blocks 0 first parts ++ part_blocks part n f) at before.3
             ∙ sym (parts_blocks-more 0 first parts part),

@@ -10,12 +10,12 @@ use Rattle.lx_layout.specs.Halting.{halted_accept}
 use Rattle.lx_layout.specs.Layout.{end_size, lone_size}
 use Rattle.lx_layout.specs.SuppliedLayout.{classes_begin, lone_number, size_in}
 use Rattle.lx_layout.specs.Supplies.{state}
-use Rattle.lx_layout.specs.TestTrees.{leaf}
-use Rattle.lx_layout.specs.TransitionClasses.{transition_classes}
-use Rattle.lx_layout.specs.Views.{class_list, seen_classes, seen_tree}
+use Rattle.lx_dispatch.specs.TestTrees.{leaf}
+use Rattle.lx_dispatch.specs.TransitionClasses.{transition_classes}
+use Rattle.lx_dispatch.specs.Views.{class_list, seen_classes, seen_tree}
 use Rattle.lx_layout.specs.declared.state_plans.PartPlans.{PartPlans}
 use Rattle.lx_layout.specs.declared.state_plans.StatePlan.{StatePlan}
-use Rattle.lx_layout.specs.declared.transition_classes.TransitionClass.{TransitionClass}
+use Rattle.lx_dispatch.specs.declared.classes.TransitionClass.{TransitionClass}
 
 pub each_at : {X : Type 0} (P : X → Type 0) (xs : List X) (n : ℕ) (x : X) → AllByRecursion P xs → n < length xs → x ≡ slice_index_or xs n x → P x
 each_at P [] n x all within is = absurd (omega (arith, within))
@@ -39,9 +39,9 @@ module _ (plans : PartPlans) (are : ArePlans plans) (number : ℕ) (within : num
       ap (λ (p : StatePlan). seen_tree p.tests) is
       ∙ sym (get_or-map (λ (p : StatePlan). seen_tree p.tests) plans.states.items number plan (leaf None) within)
 
-  pub plan_planned : IsStatePlan plans.input.demand.eof plans.input.greatest plan
+  pub plan_planned : IsStatePlan plans.input.demand.asking.format plans.input.demand.asking.sets.now.table.items plans.input.demand.eof plans.input.greatest plan
   plan_planned =
-      each_at (IsStatePlan plans.input.demand.eof plans.input.greatest) plans.states.items number plan are.planned within is
+      each_at (IsStatePlan plans.input.demand.asking.format plans.input.demand.asking.sets.now.table.items plans.input.demand.eof plans.input.greatest) plans.states.items number plan are.planned within is
 
   pub plan_classes : seen_classes (class_list plan.classes) ≡ transition_classes (given_at plans number).edges
   plan_classes = plan_planned.classes ∙ ap (λ (s : State). transition_classes s.edges) plan_given

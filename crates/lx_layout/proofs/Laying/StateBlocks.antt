@@ -17,10 +17,10 @@ use Rattle.lx_layout.specs.Parts.{asks_by, asks_with, state_asks}
 use Rattle.lx_layout.specs.Plans.{unlabelled}
 use Rattle.lx_layout.specs.SuppliedLayout as layouts
 use Rattle.lx_layout.specs.SuppliedLayout.{lone_number}
-use Rattle.lx_layout.specs.TransitionClasses.{transition_classes}
-use Rattle.lx_layout.specs.Views.{seen_classes}
+use Rattle.lx_dispatch.specs.TransitionClasses.{transition_classes}
+use Rattle.lx_dispatch.specs.Views.{seen_classes}
 use Rattle.lx_layout.specs.declared.state_plans.PartPlans.{PartPlans}
-use Rattle.lx_layout.specs.declared.transition_classes.TransitionClass.{TransitionClass}
+use Rattle.lx_dispatch.specs.declared.classes.TransitionClass.{TransitionClass}
 use Rattle.lx_layout.proofs.BlockLayouts.BlockLoops.{list_code-append, unlabelled-append}
 
 -- ---- an edge

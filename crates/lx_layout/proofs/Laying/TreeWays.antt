@@ -6,7 +6,8 @@ use Rattle.lx_ccode.specs.declared.piece.Stmt.{Stmt}
 use Rattle.lx_ccode.specs.declared.piece.Stmt.TheVariants.{IfUnit}
 use Rattle.lx_layout.specs.Plans.{unlabelled}
 use Rattle.lx_layout.specs.SuppliedLayout.{with_blocks}
-use Rattle.lx_layout.specs.TestTrees.{TestTree, at_most, fork, inner_blocks, inner_size, leaf, switch, test, tree_code}
+use Rattle.lx_dispatch.specs.TestTrees.{TestTree, at_most, fork, leaf, switch, test}
+use Rattle.lx_layout.specs.TreeCodes.{inner_blocks, inner_size, tree_code}
 use Rattle.lx_layout.proofs.BlockLayouts.BlockLoops.{unlabelled-append}
 
 module _ (block : Option ℕ → ℕ) where

@@ -13,7 +13,8 @@ use Rattle.lx_layout.specs.Endings.{Ending}
 use Rattle.lx_layout.specs.Halting.{Halting}
 use Rattle.lx_layout.specs.SuppliedLayout.{blocks_at_end, read_blocks, reader_blocks, supplied_layout}
 use Rattle.lx_layout.specs.Supplies.{Reader, Supply, need_code}
-use Rattle.lx_layout.specs.TestTrees.{TestTree, fork, inner_blocks, leaf, switch, test, tree_code}
+use Rattle.lx_dispatch.specs.TestTrees.{TestTree, fork, leaf, switch, test}
+use Rattle.lx_layout.specs.TreeCodes.{inner_blocks, tree_code}
 use Rattle.lx_layout.proofs.BlockLayouts.Questions.{any_question}
 use Rattle.lx_layout.proofs.PartLayouts.CalmBlocks.{Calm, IsCalm}
 use Rattle.lx_layout.proofs.PartLayouts.CalmLayouts.{calm_layout}

@@ -20,7 +20,8 @@ use Rattle.lx_layout.specs.Endings.{Ending, action_code, cond_code, ending_code,
 use Rattle.lx_layout.specs.Halting.{Halting, ended_accepts, saved_accepts}
 use Rattle.lx_layout.specs.Layout.{end_blocks, ending_blocks, lone_blocks, restore_blocks}
 use Rattle.lx_layout.specs.SuppliedLayout.{class_blocks, end_rule_part, fallback_part}
-use Rattle.lx_layout.specs.TestTrees.{Question, TestTree, asks, fork, inner_blocks, inner_size, leaf, switch, test, tree_code}
+use Rattle.lx_dispatch.specs.TestTrees.{Question, TestTree, fork, leaf, switch, test}
+use Rattle.lx_layout.specs.TreeCodes.{asks, inner_blocks, inner_size, tree_code}
 use Rattle.lx_layout.proofs.BlockLayouts.Questions.{any_question}
 use Rattle.lx_layout.proofs.PartLayouts.EndingStatements.{EachTag, HoldsOfEnds, ending_each}
 use Rattle.lx_layout.proofs.PartLayouts.PlainBlocks.{HoldsOfPlain, OfAccept, OfAccepts, plain-classes, plain-end, plain-lone, plain-rest}

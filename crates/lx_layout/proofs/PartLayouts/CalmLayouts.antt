@@ -12,7 +12,7 @@ use Rattle.lx_layout.specs.Endings.{Ending}
 use Rattle.lx_layout.specs.Halting.{Halting}
 use Rattle.lx_layout.specs.SuppliedLayout.{supplied_layout}
 use Rattle.lx_layout.specs.Supplies.{Reader, Supply, entry, need_code, state, try_code}
-use Rattle.lx_layout.specs.TestTrees.{TestTree}
+use Rattle.lx_dispatch.specs.TestTrees.{TestTree}
 use Rattle.lx_layout.proofs.BlockLayouts.Questions.{any_question}
 use Rattle.lx_layout.proofs.PartLayouts.CalmBlocks.{Calm, accept_any, all_any, calm_plain}
 use Rattle.lx_layout.proofs.PartLayouts.EachCode.{StatesAsk, codes_each}

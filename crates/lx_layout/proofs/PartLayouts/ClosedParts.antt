@@ -1,22 +1,20 @@
 -- Each block of scanners one behind another ends once, and jumps to a block of its own scanner.
-use Rattle.std.specs.Prelude.{◌≡◌, ℕ, suc, ◌+◌, ◌<◌, ◌≤◌, List, [], ◌∷◌, length, Option, None, true, refl}
+use Rattle.std.specs.Prelude.{◌≡◌, ℕ, ◌+◌, ◌<◌, ◌≤◌, List, [], ◌∷◌, length, Option, None, true, refl}
 use Rattle.std.proofs.Common.{arith, length-append, subst, sym}
 use Rattle.std.proofs.lemmas.List.{length-map}
 use Rattle.std.specs.List.{AllByRecursion}
-use Rattle.lx_auto.specs.declared.automaton.Auto.{Auto}
-use Rattle.lx_auto.specs.declared.automaton.State.{State}
 use Rattle.lx_ccode.specs.Statements.{all_statements, targets}
 use Rattle.lx_ccode.specs.Validity.{JumpsBelow, ends_once}
 use Rattle.lx_ccode.specs.declared.piece.CodeBlock.{CodeBlock}
 use Rattle.lx_ccode.specs.declared.piece.Stmt.{Stmt}
-use Rattle.lx_layout.specs.FormedParts.{AreFormed}
+use Rattle.lx_layout.specs.FormedParts.{AreFormed, IsFormed}
 use Rattle.lx_layout.specs.Parts.{EachPart, Part, given_asked, given_supply, labelled, part_blocks, part_codes, parts_blocks}
 use Rattle.lx_layout.specs.Plans.{unlabelled}
-use Rattle.lx_layout.specs.SuppliedLayout.{EachReader, EachState, JumpsWithin}
-use Rattle.lx_layout.specs.Supplies.{Reader}
-use Rattle.lx_layout.specs.TestTrees.{IsTreeOf, TestTree, TestsWithin}
+use Rattle.lx_layout.specs.SuppliedLayout.{EachReader, JumpsWithin}
+use Rattle.lx_dispatch.specs.Dispatch.{AreTestsOf}
 use Rattle.lx_layout.proofs.PartLayouts.PartBlocks.{of_parts, of_statements}
 use Rattle.lx_layout.proofs.SuppliedLayouts.ClosedLayouts.{closed_ends, closed_jumps}
+use Rattle.lx_layout.proofs.SuppliedLayouts.LeadingTrees.{LeadsWithin, each_reader, leads_within}
 use Rattle.lx_layout.proofs.Validity.EachElement.{each-map}
 
 -- ---- how many blocks there are
@@ -37,15 +35,13 @@ length-parts begin first part parts =
 
 -- ---- the trees of a scanner
 
-states_within : (eof : Option ℕ) (greatest : ℕ) (trees : Reader → TestTree (Option ℕ)) (number : ℕ) (states : List State)
-    → EachState IsTreeOf eof greatest trees number states → EachState TestsWithin eof greatest trees number states
-states_within eof greatest trees number [] are = tt
-states_within eof greatest trees number (given ∷ states) are = (are.0.ends, states_within eof greatest trees (suc number) states are.1)
-
-pub trees_within : (eof : Option ℕ) (greatest : ℕ) (trees : Reader → TestTree (Option ℕ)) (auto : Auto) → EachReader IsTreeOf eof greatest trees auto
-    → EachReader TestsWithin eof greatest trees auto
-trees_within eof greatest trees auto are =
-    record { states = states_within eof greatest trees 0 auto.states are.states; entry = are.entry.ends }
+-- by them units go within the splits of its states
+pub part_leads : (greatest : ℕ) (part : Part) → IsFormed greatest part
+    → EachReader LeadsWithin part.given.demand.eof greatest part.trees part.given.auto
+part_leads greatest part formed =
+    each_reader (AreTestsOf part.given.demand.format part.given.demand.table part.given.demand.eof greatest) LeadsWithin
+    (λ split tree is. leads_within (length part.given.demand.table) greatest split tree is.within) part.given.demand.eof greatest part.trees part.given.auto
+    formed.chosen.trees
 
 -- ---- all scanners
 
@@ -62,7 +58,7 @@ parts_jump greatest count begin first (part ∷ parts) are room =
     let l = length-parts begin first part parts in
     let high : ℕ = begin + length (part_codes part begin first) in
     let own = closed_jumps (given_supply part.given first) part.halting part.given.endings part.given.end_rule greatest part.trees part.given.auto begin
-    are.0.auto (trees_within part.given.demand.eof greatest part.trees part.given.auto are.0.chosen.trees) are.0.chosen.marked in (
+    are.0.auto (part_leads greatest part are.0) are.0.chosen.marked in (
       each-map (λ code. AllByRecursion (JumpsWithin begin (begin + length (part_codes part begin first))) code) (λ code. AllByRecursion (JumpsBelow count) code)
           (λ code h. each-map (JumpsWithin begin (begin + length (part_codes part begin first))) (JumpsBelow count)
           (λ statement is. jump_below begin (begin + length (part_codes part begin first)) count statement (omega (arith, l, room)) is) code h)
@@ -75,7 +71,7 @@ parts_end : (greatest begin first : ℕ) (parts : List Part) → AreFormed great
 parts_end greatest begin first [] are = tt
 parts_end greatest begin first (part ∷ parts) are = (
   closed_ends (given_supply part.given first) part.halting part.given.endings part.given.end_rule greatest part.trees part.given.auto begin are.0.auto
-      (trees_within part.given.demand.eof greatest part.trees part.given.auto are.0.chosen.trees),
+      (part_leads greatest part are.0),
   parts_end greatest (begin + length (part_codes part begin first)) (first + given_asked part.given) parts are.1,
 )
 

@@ -12,8 +12,8 @@ use Rattle.lx_layout.specs.Halting.{Halting, ended_accepts, halted_accept, is_en
 use Rattle.lx_layout.specs.Layout.{end_blocks, ending_blocks, restore_blocks, saved_number}
 use Rattle.lx_layout.specs.SuppliedLayout.{at_end_blocks, blocks_by, class_blocks, end_rule_block, end_rule_part, entry_part, entry_tests_size, entry_way, fall_block, fallback_part, first_restore, kept, lone_number, place_of, reader_blocks, rule_block, state_blocks, state_end, state_size, state_to, state_way, states_begin, states_blocks, states_part, supplied_layout, tests_of, turn_begin, turn_of, with_blocks}
 use Rattle.lx_layout.specs.Supplies.{Reader, Supply, entry, state}
-use Rattle.lx_layout.specs.TestTrees.{Asked, TestTree}
-use Rattle.lx_layout.specs.TransitionClasses.{transition_classes}
+use Rattle.lx_dispatch.specs.TestTrees.{Asked, TestTree}
+use Rattle.lx_dispatch.specs.TransitionClasses.{transition_classes}
 use Rattle.lx_layout.proofs.PartLayouts.PlainBlocks.{HoldsOfPlain, OfAccept, of_classes, of_halted, plain-classes, plain-end, plain-lone, plain-rest, saved_number-few}
 use Rattle.lx_layout.proofs.PartLayouts.ReaderBlocks.{EachUnit, HoldsOfReaders, reader-tests, reader-turn, units-with_blocks}
 use Rattle.lx_layout.proofs.Validity.EachElement.{each-append}

@@ -15,7 +15,7 @@ use Rattle.lx_layout.specs.Endings.{Ending, ending_code}
 use Rattle.lx_layout.specs.Halting.{Halting, saved_accepts}
 use Rattle.lx_layout.specs.SuppliedLayout.{supplied_layout}
 use Rattle.lx_layout.specs.Supplies.{Reader, Supply, entry, state}
-use Rattle.lx_layout.specs.TestTrees.{Asked, TestTree, fork, leaf, switch, test}
+use Rattle.lx_dispatch.specs.TestTrees.{Asked, TestTree, fork, leaf, switch, test}
 use Rattle.lx_layout.proofs.PartLayouts.EachCode.{StatesAsk, codes_each}
 use Rattle.lx_layout.proofs.PartLayouts.OwnHistories.{IsOwnOp, own_ops}
 use Rattle.lx_layout.proofs.PartLayouts.PlainBlocks.{OfAccept, OfAccepts}

@@ -22,7 +22,7 @@ use Rattle.lx_layout.specs.Halting.{Halting}
 use Rattle.lx_layout.specs.Parts.{EachPart, Part, given_asked, given_supply, part_codes}
 use Rattle.lx_layout.specs.SuppliedLayout.{supplied_layout}
 use Rattle.lx_layout.specs.Supplies.{Reader, Supply, entry, state}
-use Rattle.lx_layout.specs.TestTrees.{TestTree}
+use Rattle.lx_dispatch.specs.TestTrees.{TestTree}
 use Rattle.lx_layout.proofs.BlockLayouts.Questions.{any_question}
 use Rattle.lx_layout.proofs.PartLayouts.EachStatement.{EndHolds, each_held, statements_each, units_any}
 use Rattle.lx_layout.proofs.PartLayouts.EndingStatements.{EachTag, HoldsOfEnds, ending_each}

@@ -17,8 +17,8 @@ use Rattle.lx_layout.specs.Parts.{EachPart, Part, given_asked, given_supply, lab
 use Rattle.lx_layout.specs.Plans.{unlabelled}
 use Rattle.lx_layout.specs.SuppliedLayout.{blocks_by, class_blocks, end_rule_part, entry_part, fall_block, fallback_part, first_restore, place_of, rule_block, state_blocks, state_size, states_begin, states_blocks, states_part, supplied_layout, tests_of, turn_of}
 use Rattle.lx_layout.specs.Supplies.{Reader, Supply}
-use Rattle.lx_layout.specs.TestTrees.{TestTree}
-use Rattle.lx_layout.specs.TransitionClasses.{classes_onto, has_class, transition_classes}
+use Rattle.lx_dispatch.specs.TestTrees.{TestTree}
+use Rattle.lx_dispatch.specs.TransitionClasses.{classes_onto, has_class, transition_classes}
 use Rattle.lx_layout.proofs.BlockLayouts.CodesInBlocks.{StandsFrom-back, StandsFrom-front, StandsFrom-itself}
 use Rattle.lx_layout.proofs.PartLayouts.StoredLayouts.{codes-parts}
 

@@ -13,8 +13,8 @@ use Rattle.lx_layout.specs.Halting.{Halting, ended_accepts, halted_accept, is_en
 use Rattle.lx_layout.specs.Layout.{end_blocks, ending_blocks, restore_blocks}
 use Rattle.lx_layout.specs.SuppliedLayout.{at_end_blocks, blocks_by, class_blocks, end_rule_block, end_rule_part, entry_part, entry_tests_size, entry_way, fall_block, fallback_part, first_restore, kept, lone_number, place_of, reader_blocks, rule_block, state_end, state_size, state_to, state_way, states_begin, states_blocks, states_part, supplied_layout, tests_of, turn_begin, turn_of, with_blocks}
 use Rattle.lx_layout.specs.Supplies.{Reader, Supply, entry, state}
-use Rattle.lx_layout.specs.TestTrees.{TestTree}
-use Rattle.lx_layout.specs.TransitionClasses.{transition_classes}
+use Rattle.lx_dispatch.specs.TestTrees.{TestTree}
+use Rattle.lx_dispatch.specs.TransitionClasses.{transition_classes}
 use Rattle.lx_layout.proofs.PartLayouts.AskedLayouts.{Has, has-back, has-front, has-split, no_peek}
 use Rattle.lx_layout.proofs.PartLayouts.CalmBlocks.{Calm, calm_classes, calm_end, calm_lone, calm_rest}
 use Rattle.lx_layout.proofs.Validity.EachElement.{each-append}

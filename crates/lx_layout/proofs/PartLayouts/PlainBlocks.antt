@@ -15,7 +15,7 @@ use Rattle.lx_layout.specs.Fallback.{edge_code, fallback_code}
 use Rattle.lx_layout.specs.Halting.{Halting, any_falls, ended_accept, ended_accepts, firsts_from, halted_accept, is_saved, saved_accept, saved_accepts}
 use Rattle.lx_layout.specs.Layout.{choices_from, end_blocks, ending_blocks, has_rule, lone_blocks, own_blocks, restore_blocks, rule_place, saved_number, with_accept}
 use Rattle.lx_layout.specs.SuppliedLayout.{class_blocks, end_rule_part, fallback_part, kept}
-use Rattle.lx_layout.specs.TransitionClasses.{classes_onto, has_class}
+use Rattle.lx_dispatch.specs.TransitionClasses.{classes_onto, has_class}
 use Rattle.lx_layout.proofs.Validity.EachElement.{each-append}
 
 -- ---- what is chosen of states

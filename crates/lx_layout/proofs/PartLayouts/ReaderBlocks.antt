@@ -6,8 +6,9 @@ use Rattle.lx_ccode.specs.declared.piece.Stmt.{Stmt}
 use Rattle.lx_ccode.specs.declared.piece.Stmt.TheVariants.{Goto, Peek, Switch}
 use Rattle.lx_layout.specs.SuppliedLayout.{at_end_blocks, blocks_at_end, check_blocks, read_blocks, reader_blocks, refill_blocks, with_blocks}
 use Rattle.lx_layout.specs.Supplies.{Reader, Supply, back_code, end_test, need_code, try_code}
-use Rattle.lx_layout.specs.TestTrees.{Asked, EachTest, Question, TestTree, asks, by_cases, by_question, fork, inner_blocks, inner_size, leaf, switch, switch_cases, test, tree_code}
-use Rattle.lx_layout.proofs.BlockLayouts.Questions.{each-cases_by, units-by}
+use Rattle.lx_dispatch.specs.TestTrees.{Asked, EachTest, Question, TestTree, by_cases, by_question, fork, leaf, switch, test}
+use Rattle.lx_layout.specs.TreeCodes.{asks, inner_blocks, inner_size, switch_cases, tree_code}
+use Rattle.lx_dispatch.proofs.Cases.{each-cases_by, units-by}
 use Rattle.lx_layout.proofs.Validity.EachElement.{each-append}
 
 -- all that is asked is of some sort

@@ -1,4 +1,4 @@
--- The units that a scanner's trees test can be written.
+-- What a scanner's trees ask can be written.
 use Rattle.std.specs.Prelude.{◌≡◌, ℕ, zero, suc, ◌+◌, ◌-◌, ◌<◌, ◌≤◌, IfSome, List, [], ◌∷◌, length, Option, Some, None, All, Bool, true, false, nat_le, nat_lt, if◌then◌else◌}
 use Rattle.std.proofs.Common.{inl, inr, arith, subst}
 use Rattle.std.specs.List.{AllByRecursion}
@@ -10,10 +10,13 @@ use Rattle.lx_layout.specs.FormedParts.{IsFormed}
 use Rattle.lx_layout.specs.Parts.{Part}
 use Rattle.lx_layout.specs.SuppliedLayout.{EachState}
 use Rattle.lx_layout.specs.Supplies.{Reader, entry, state}
-use Rattle.lx_layout.specs.TestTrees.{AsksAtMost, HasEnd, HasWay, IsTreeOf, TestTree, TestsWithin}
-use Rattle.lx_layout.specs.TransitionClasses.{Split, Stretch, before, edge_split, first_class, same_place, split_of, stretches, class_place, transition_classes}
-use Rattle.lx_layout.specs.UnitApart.{apart_from, reader_split, stretch_behind, unit_last, unit_then, units_before, with_test}
-use Rattle.lx_layout.proofs.BlockLayouts.SplitTrees.{asks-more, each-tests}
+use Rattle.lx_base.specs.declared.settings.Format.{Format}
+use Rattle.lx_dispatch.specs.Dispatch.{AreCases, AreTestsOf, IsTable, MayAsk, TestsWithin}
+use Rattle.lx_dispatch.specs.TestTrees as trees
+use Rattle.lx_dispatch.specs.TestTrees.{Asked, HasEnd, HasWay, TestTree, among, at_most, by_cases, by_question}
+use Rattle.lx_dispatch.specs.TransitionClasses.{Split, Stretch, before, edge_split, first_class, same_place, split_of, stretches, class_place, transition_classes}
+use Rattle.lx_dispatch.specs.UnitApart.{apart_from, reader_split, stretch_behind, unit_last, unit_then, units_before, with_test}
+use Rattle.lx_dispatch.proofs.SplitTrees.{each-tests}
 use Rattle.lx_layout.proofs.PartLayouts.ReaderBlocks.{EachUnit}
 
 -- ---- the tests of edges
@@ -114,13 +117,30 @@ end_short [] unit short has = absurd has
 end_short (stretch ∷ list) unit short (inl e) = let h = short.0 in omega (arith, e, h)
 end_short (stretch ∷ list) unit short (inr has) = end_short list unit short.1 has
 
-tree_short : (eof : Option ℕ) (greatest : ℕ) (edges : List Edge) (tree : TestTree (Option ℕ)) → TestsWithin (reader_split eof greatest edges) tree
-    → IfSome eof IsShort → EdgesShort edges → EachUnit (AsksAtMost IsShort) tree
-tree_short eof greatest edges tree ends short units =
+-- all that is asked can be written: units, sets, and cases
+abbrev pub IsShortAsked : Asked → Type 0
+IsShortAsked (by_question (at_most greatest)) = IsShort greatest
+IsShortAsked (by_question (trees.is unit)) = IsShort unit
+IsShortAsked (by_question (among set)) = IsShort set
+IsShortAsked (by_cases units) = AreCases units
+
+asked_short : (table : List ℕ) (greatest : ℕ) (list : List Stretch) → IsTable table → StretchesShort list → (asked : Asked)
+    → MayAsk (length table) greatest list asked → IsShortAsked asked
+asked_short table greatest list is_table all (by_question (at_most unit)) may = end_short list unit all may
+asked_short table greatest list is_table all (by_question (trees.is unit)) may = omega (arith, may)
+asked_short table greatest list is_table all (by_question (among set)) may =
+    let size = is_table.1 in
+    let few = is_table.2 in
+    omega (arith, may, size, few)
+asked_short table greatest list is_table all (by_cases units) may = may.1
+
+tree_short : (table : List ℕ) (eof : Option ℕ) (greatest : ℕ) (edges : List Edge) (tree : TestTree (Option ℕ)) → IsTable table
+    → TestsWithin (length table) greatest (reader_split eof greatest edges) tree → IfSome eof IsShort → EdgesShort edges → EachUnit IsShortAsked tree
+tree_short table eof greatest edges tree is_table within short units =
     let split : Split = reader_split eof greatest edges in
     let all = reader_short eof greatest edges short units in
-    each-tests (AsksAtMost (HasEnd split.tests)) (AsksAtMost IsShort) (HasWay split.tests split.last) (λ class. Unit {0})
-    (asks-more (HasEnd split.tests) IsShort (λ unit has. end_short split.tests unit all has)) (λ class has. tt) tree ends
+    each-tests (MayAsk (length table) greatest split.tests) IsShortAsked (HasWay split.tests split.last) (λ class. Unit {0})
+    (asked_short table greatest split.tests is_table all) (λ class has. tt) tree within
 
 -- ---- all that reads
 
@@ -128,22 +148,22 @@ each_of_all : {A : Type 0} (P : A → Type 0) (xs : List A) → All P xs → All
 each_of_all P [] h = tt
 each_of_all P (x ∷ xs) h = (h 0 x (omega arith), each_of_all P xs (λ k d lt. h (suc k) d (omega (arith, lt))))
 
-module _ (greatest : ℕ) (eof : Option ℕ) (trees : Reader → TestTree (Option ℕ)) (short : IsShort greatest) (eof_short : IfSome eof IsShort) where
+module _ (format : Format) (table : List ℕ) (is_table : IsTable table) (greatest : ℕ) (eof : Option ℕ) (trees : Reader → TestTree (Option ℕ)) (short : IsShort greatest) (eof_short : IfSome eof IsShort) where
   abbrev AreUnits : List Edge → Type 0
   AreUnits edges = All (λ (edge : Edge). edge.hi ≤ greatest) edges
 
   states_short : (regs mregs count number : ℕ) (states : List State) → AreStates regs mregs count states
-      → AllByRecursion (λ (given : State). AreUnits given.edges) states → EachState IsTreeOf eof greatest trees number states
-      → (k : ℕ) → k < length states → EachUnit (AsksAtMost IsShort) (trees (state (number + k)))
+      → AllByRecursion (λ (given : State). AreUnits given.edges) states → EachState (AreTestsOf format table eof greatest) eof greatest trees number states
+      → (k : ℕ) → k < length states → EachUnit IsShortAsked (trees (state (number + k)))
   states_short regs mregs count number [] are units picked k lt = absurd (omega (arith, lt))
   states_short regs mregs count number (given ∷ states) are units picked zero lt =
       let e : number ≡ number + 0 = omega arith in
-      subst (λ n. EachUnit (AsksAtMost IsShort) (trees (state n))) e
-      (tree_short eof greatest given.edges (trees (state number)) picked.0.ends eof_short
+      subst (λ n. EachUnit IsShortAsked (trees (state n))) e
+      (tree_short table eof greatest given.edges (trees (state number)) is_table picked.0.within eof_short
       (edges_short greatest 0 given.edges short are.0.apart (each_of_all (λ (edge : Edge). edge.hi ≤ greatest) given.edges units.0)))
   states_short regs mregs count number (given ∷ states) are units picked (suc k) lt =
       let e : suc number + k ≡ number + suc k = omega arith in
-      subst (λ n. EachUnit (AsksAtMost IsShort) (trees (state n))) e
+      subst (λ n. EachUnit IsShortAsked (trees (state n))) e
       (states_short regs mregs count (suc number) states are.1 units.1 picked.1 k (omega (arith, lt)))
 
   first_short : (regs mregs count : ℕ) (states : List State) → AreStates regs mregs count states
@@ -153,18 +173,19 @@ module _ (greatest : ℕ) (eof : Option ℕ) (trees : Reader → TestTree (Optio
       edges_short greatest 0 given.edges short are.0.apart (each_of_all (λ (edge : Edge). edge.hi ≤ greatest) given.edges units.0)
 
 module _ (greatest : ℕ) (part : Part) (short : IsShort greatest) (eof_short : IfSome part.given.demand.eof IsShort) (formed : IsFormed greatest part) where
-  pub tests_short : (number : ℕ) → number < length part.given.auto.states → EachUnit (AsksAtMost IsShort) (part.trees (state number))
+  pub tests_short : (number : ℕ) → number < length part.given.auto.states → EachUnit IsShortAsked (part.trees (state number))
   tests_short number lt =
       let e : 0 + number ≡ number = omega arith in
-      subst (λ n. EachUnit (AsksAtMost IsShort) (part.trees (state n))) e
-      (states_short greatest part.given.demand.eof part.trees short eof_short part.given.auto.regs part.given.auto.mregs (length part.given.auto.states) 0
+      subst (λ n. EachUnit IsShortAsked (part.trees (state n))) e
+      (states_short part.given.demand.format part.given.demand.table formed.table greatest part.given.demand.eof part.trees short eof_short part.given.auto.regs part.given.auto.mregs (length part.given.auto.states) 0
       part.given.auto.states formed.auto.states
       (each_of_all (λ (given : State). All (λ (edge : Edge). edge.hi ≤ greatest) given.edges) part.given.auto.states formed.units)
       formed.chosen.trees.states number lt)
 
-  pub entry_short : EachUnit (AsksAtMost IsShort) (part.trees entry)
+  pub entry_short : EachUnit IsShortAsked (part.trees entry)
   entry_short =
-      tree_short part.given.demand.eof greatest (state_of part.given.auto.states 0).edges (part.trees entry) formed.chosen.trees.entry.ends eof_short
-      (first_short greatest part.given.demand.eof part.trees short eof_short part.given.auto.regs part.given.auto.mregs (length part.given.auto.states)
+      tree_short part.given.demand.table part.given.demand.eof greatest (state_of part.given.auto.states 0).edges (part.trees entry) formed.table
+      formed.chosen.trees.entry.within eof_short
+      (first_short part.given.demand.format part.given.demand.table formed.table greatest part.given.demand.eof part.trees short eof_short part.given.auto.regs part.given.auto.mregs (length part.given.auto.states)
       part.given.auto.states formed.auto.states
       (each_of_all (λ (given : State). All (λ (edge : Edge). edge.hi ≤ greatest) given.edges) part.given.auto.states formed.units))

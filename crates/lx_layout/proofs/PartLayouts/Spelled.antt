@@ -1,5 +1,5 @@
 -- The numbers and names in the statements of a scanner can be spelled, whatever the blocks are to which it jumps.
-use Rattle.std.specs.Prelude.{◌≡◌, ℕ, zero, suc, ◌+◌, ◌-◌, ◌*◌, ◌≤◌, IfSome, List, [], ◌∷◌, length, Option, Some, None, Bool, true, false, refl}
+use Rattle.std.specs.Prelude.{◌≡◌, ℕ, zero, suc, ◌+◌, ◌-◌, ◌*◌, ◌≤◌, IfSome, List, [], ◌∷◌, length, map, Option, Some, None, Bool, true, false, refl}
 use Rattle.std.proofs.Common.{ap, arith, subst, sym}
 use Rattle.std.proofs.lemmas.Bool.{false≢true}
 use Rattle.std.specs.List.{AllByRecursion, list_any}
@@ -15,6 +15,7 @@ use Rattle.lx_base.specs.Letters.{IsIdentifier, equal_words}
 use Rattle.lx_base.specs.Names.{Spellings, IsTagName}
 use Rattle.lx_ccode.specs.Validity.{IsLine, IsLong, IsRegister, IsShort}
 use Rattle.lx_ccode.specs.declared.piece.Stmt.{Stmt}
+use Rattle.lx_ccode.specs.declared.piece.SwitchCase.{SwitchCase}
 use Rattle.lx_ccode.specs.declared.piece.Stmt.TheVariants.{Accept as SaveAccept, Back, Code, Cond, Copy, Count, End, IfAccept, IfIs, IfSet, IfUnit, Jump, MCopy, MSet, MUnset, Need, Set, State as Store, Switch, Tag, Unset}
 use Rattle.lx_layout.specs.Codes.{op_code}
 use Rattle.lx_layout.specs.Endings.{Ending, action_code, cond_code, ending_code, last_code, name_or_none, tag_code}
@@ -27,16 +28,18 @@ use Rattle.lx_layout.proofs.PartLayouts.EachStatement.{each_held, statements_eac
 use Rattle.lx_layout.proofs.PartLayouts.EndingStatements.{EachTag, HoldsOfEnds, ending_each}
 use Rattle.lx_layout.proofs.PartLayouts.OwnHistories.{IsOwnOp}
 use Rattle.lx_layout.proofs.PartLayouts.PlainBlocks.{OfAccept, OfAccepts, few_saved}
-use Rattle.lx_layout.proofs.PartLayouts.ShortTests.{entry_short, tests_short}
+use Rattle.lx_layout.proofs.PartLayouts.ShortTests.{IsShortAsked, entry_short, tests_short}
 use Rattle.lx_layout.proofs.PartLayouts.StatementSorts.{PlainStatements, ReaderStatements}
-use Rattle.lx_layout.specs.TestTrees as trees
-use Rattle.lx_layout.specs.TestTrees.{AsksAtMost, Question, among, asks, at_most, by_question}
+use Rattle.lx_dispatch.specs.TestTrees as trees
+use Rattle.lx_dispatch.specs.Dispatch.{AreCases}
+use Rattle.lx_dispatch.specs.TestTrees.{Question, among, at_most, by_question}
+use Rattle.lx_layout.specs.TreeCodes.{asks, switch_cases}
 
 -- the number of a history, and one more, can be written
 abbrev pub HasRoom : ℕ → Type 0
 HasRoom history = IsShort (history + 1)
 
--- the statement has a spelling if its block has one; it has few groups, its condition is one of these, and it is not of format 3
+-- the statement has a spelling if its blocks have one; it has few groups, and its condition is one of these
 abbrev pub IsSpellable : Spellings → (conds : List (List ℕ)) → Stmt → Type 0
 IsSpellable names conds (SaveAccept accept) = IsShort accept
 IsSpellable names conds (Set register) = IsRegister register
@@ -46,8 +49,8 @@ IsSpellable names conds (MSet history) = HasRoom history
 IsSpellable names conds (MUnset history) = HasRoom history
 IsSpellable names conds (MCopy history source) = HasRoom history × HasRoom source
 IsSpellable names conds (IfUnit greatest block) = IsShort greatest
-IsSpellable names conds (IfIs unit block) = ⊥
-IsSpellable names conds (IfSet set block) = ⊥
+IsSpellable names conds (IfIs unit block) = IsShort unit
+IsSpellable names conds (IfSet set block) = IsShort set
 IsSpellable names conds (IfAccept accept block) = IsShort accept
 IsSpellable names conds (Store number) = IsLong number
 IsSpellable names conds (Need units) = IsShort units
@@ -57,17 +60,21 @@ IsSpellable names conds (Tag tag false register) = IsTagName names tag × IsRegi
 IsSpellable names conds (Count groups) = groups ≤ 65
 IsSpellable names conds (End place register) = (place ≤ 129) × IsRegister register
 IsSpellable names conds (Back register) = IsRegister register
-IsSpellable names conds (Switch cases last) = ⊥
+IsSpellable names conds (Switch cases last) = AreCases (map (λ (case : SwitchCase). case.units) cases)
 IsSpellable names conds (Code rule line action) = IsShort rule × IsLine line × IsShort (length action)
 IsSpellable names conds (Jump cond rule) = (IsIdentifier cond × (list_any (equal_words cond) conds ≡ true)) × IsShort rule
 IsSpellable names conds _ = Unit {0}
 
--- a test that asks for a greatest unit that can be written
-question_spelled : (names : Spellings) (conds : List (List ℕ)) (question : Question) (block : ℕ) → AsksAtMost IsShort (by_question question)
+-- tests, if what they ask can be written
+question_spelled : (names : Spellings) (conds : List (List ℕ)) (question : Question) (block : ℕ) → IsShortAsked (by_question question)
     → IsSpellable names conds (asks question block)
 question_spelled names conds (at_most greatest) block is = is
-question_spelled names conds (trees.is unit) block is = absurd is
-question_spelled names conds (among set) block is = absurd is
+question_spelled names conds (trees.is unit) block is = is
+question_spelled names conds (among set) block is = is
+
+units-switch : (cases : List (List ℕ × ℕ)) → map (λ (case : SwitchCase). case.units) (switch_cases cases) ≡ map (λ case. case.0) cases
+units-switch [] = refl
+units-switch (case ∷ cases) = ap (λ units. case.0 ∷ units) (units-switch cases)
 
 -- ---- numbers by which what reads is stored
 
@@ -183,11 +190,11 @@ module _ (names : Spellings) (conds : List (List ℕ)) where
       chooses = λ saved block is. is;
     }
 
-    readers_fine : ReaderStatements (IsSpellable names conds) (AsksAtMost IsShort) CanBeStored IsShort supply
+    readers_fine : ReaderStatements (IsSpellable names conds) IsShortAsked CanBeStored IsShort supply
     readers_fine = record {
       goes = λ block. tt;
       unit = λ question block is. question_spelled names conds question block is;
-      switches = λ cases last is. absurd is;
+      switches = λ cases last is. subst (λ units. AreCases units) (sym (units-switch cases)) is;
       peeks = tt;
       unchecked = omega arith;
       needs = λ units is. is;
@@ -201,7 +208,7 @@ module _ (names : Spellings) (conds : List (List ℕ)) where
     part_fine begin =
         let few = formed.auto.few in
         let saved = few_saved part.halting part.given.auto.states in
-        statements_each (IsSpellable names conds) (AsksAtMost IsShort) CanBeStored IsShort IsShort supply part.halting part.given.endings part.given.end_rule part.trees
+        statements_each (IsSpellable names conds) IsShortAsked CanBeStored IsShort IsShort supply part.halting part.given.endings part.given.end_rule part.trees
         part.given.auto
         (record {
           plain = plain_fine;

@@ -14,7 +14,8 @@ use Rattle.lx_layout.specs.Endings.{Ending, ending_code}
 use Rattle.lx_layout.specs.Fallback.{fallback_code}
 use Rattle.lx_layout.specs.Halting.{Halting, saves_on}
 use Rattle.lx_layout.specs.Supplies.{Reader, Supply, need_code, store_code}
-use Rattle.lx_layout.specs.TestTrees.{Asked, Question, asks, by_cases, by_question, switch_cases}
+use Rattle.lx_dispatch.specs.TestTrees.{Asked, Question, by_cases, by_question}
+use Rattle.lx_layout.specs.TreeCodes.{asks, switch_cases}
 use Rattle.lx_layout.proofs.PartLayouts.PlainBlocks.{HoldsOfPlain}
 use Rattle.lx_layout.proofs.PartLayouts.ReaderBlocks.{HoldsOfReaders}
 

@@ -9,7 +9,8 @@ use Rattle.lx_ccode.specs.declared.piece.StateCase.{StateCase}
 use Rattle.lx_ccode.specs.declared.piece.Stmt.{Stmt}
 use Rattle.lx_layout.specs.SuppliedLayout.{blocks_at_end, check_blocks, read_blocks, reader_blocks}
 use Rattle.lx_layout.specs.Supplies.{Reader}
-use Rattle.lx_layout.specs.TestTrees.{TestTree, fork, inner_blocks, leaf, switch, test, tree_code}
+use Rattle.lx_dispatch.specs.TestTrees.{TestTree, fork, leaf, switch, test}
+use Rattle.lx_layout.specs.TreeCodes.{inner_blocks, tree_code}
 use Rattle.lx_layout.proofs.PartLayouts.CalmBlocks.{Calm, calm_inner, calm_tree}
 
 -- ---- the numbers in a code

@@ -7,15 +7,18 @@ use Rattle.std.proofs.lemmas.List.{length-map}
 use Rattle.std.specs.List.{AllByRecursion, list_any}
 use Rattle.lx_base.specs.declared.limits.TheConstants.{STATEMENT_LIMIT}
 use Rattle.lx_base.specs.Letters.{IsIdentifier}
-use Rattle.lx_base.specs.Names.{AreAllowed, AreDistinct, DoNotClash, name_primitives}
+use Rattle.lx_base.specs.Names.{AreAllowed, AreDistinct, DoNotClash, name_primitives, name_table}
 use Rattle.lx_base.specs.Spelling.{greatest_unit}
 use Rattle.lx_base.specs.declared.settings.Enc.{Enc}
 use Rattle.lx_base.specs.declared.settings.Enc.TheVariants.{Byte, Ucs2, Utf8, Utf16, Utf32}
+use Rattle.lx_base.specs.declared.settings.Format.{Format}
+use Rattle.lx_base.specs.declared.settings.Format.TheVariants.{Two, Three}
 use Rattle.lx_ccode.specs.Agreement.{Agrees, keeps_mode}
-use Rattle.lx_ccode.specs.Counts.{is_peek, state_count, table_size}
-use Rattle.lx_ccode.specs.Heads.{is_custom, is_three}
+use Rattle.lx_ccode.specs.Counts.{is_peek, state_count}
+use Rattle.lx_ccode.specs.Heads.{is_custom, is_format_three, is_three}
+use Rattle.lx_ccode.specs.Labels.{is_like_block}
 use Rattle.lx_ccode.specs.States.{states_from}
-use Rattle.lx_ccode.specs.Statements.{all_statements, has_register_one, is_need, is_of_three, is_state, is_switch, is_try, statement_count}
+use Rattle.lx_ccode.specs.Statements.{all_statements, has_register_one, is_need, is_of_three, is_state, is_switch, is_try, names_table, statement_count}
 use Rattle.lx_ccode.specs.Validity.{AreAscending, AreOnce, EachBlockHasSpelling, HasFewGroups, IsByte, IsLine, IsLong, IsShort, IsStateSwitch, IsValid, NamesOneOf, ends_once, label_of, labels, states_before_refills}
 use Rattle.lx_ccode.specs.declared.piece.CodeBlock.{CodeBlock}
 use Rattle.lx_ccode.specs.declared.piece.CondCase.{CondCase}
@@ -33,7 +36,7 @@ use Rattle.lx_layout.specs.Writable.{PartsCanBeWritten}
 use Rattle.lx_layout.proofs.PartLayouts.AskingParts.{needs_none, peeks_need, peeks_try, refills_after, states_before, tries_none}
 use Rattle.lx_layout.proofs.PartLayouts.ClosedParts.{all_end, all_jump, length-parts}
 use Rattle.lx_layout.proofs.PartLayouts.LastBlocks.{last_tries_none}
-use Rattle.lx_layout.proofs.PartLayouts.OfFormatTwo.{no_groups, no_switches, none_of_three}
+use Rattle.lx_layout.proofs.PartLayouts.OfFormatTwo.{none_of_three, switches_bytes}
 use Rattle.lx_layout.proofs.PartLayouts.PartBlocks.{OfBlocks, of_statements}
 use Rattle.lx_layout.proofs.PartLayouts.PartOrder.{parts_begin, parts_labelled, some_block}
 use Rattle.lx_layout.proofs.PartLayouts.PartStates.{no_states, nothing_stored, states_ascend, states_numbered, states_once}
@@ -111,9 +114,9 @@ keeps Eof eof peeks needs tries unit none without counts does =
 
 -- ---- the piece
 
-module _ (custom : Bool) (enc : Enc) (mode : Mode) (stores : Bool) (first : ℕ) (parts : List Part) (piece : Piece) (some : 0 < length parts)
+module _ (format : Format) (custom : Bool) (enc : Enc) (mode : Mode) (stores : Bool) (first : ℕ) (parts : List Part) (piece : Piece) (some : 0 < length parts)
     (are : AreFormed (greatest_unit enc) parts) (suit : AllByRecursion (Suits mode) parts) (store : AllStore stores parts)
-    (written : PartsCanBeWritten piece.names (conds_of parts) parts) (apart : AreDistinct (conds_of parts)) (is : IsPieceOf custom enc mode first parts piece)
+    (written : PartsCanBeWritten piece.names (conds_of parts) parts) (apart : AreDistinct (conds_of parts)) (is : IsPieceOf format custom enc mode first parts piece)
     (few : statement_count piece.blocks ≤ STATEMENT_LIMIT) (room : IsLong (first + all_asked parts)) where
   abbrev blocks : List CodeBlock
   blocks = piece.blocks
@@ -249,22 +252,38 @@ module _ (custom : Bool) (enc : Enc) (mode : Mode) (stores : Bool) (first : ℕ)
 
   -- ---- the format
 
-  none_three : list_any is_of_three (all_statements piece.blocks) ≡ false
-  none_three = none_of_three piece.names (conds_of parts) (all_statements piece.blocks) statements_fine
+  of_format : list_any is_of_three (all_statements piece.blocks) ≡ true → is_three piece.head ≡ true
+  of_format some = ap is_three is.head ∙ by format refl is.formats
+    where
+      by : (given : Format) → format ≡ given → AllByRecursion (λ (part : Part). part.given.demand.format ≡ given) parts → is_format_three format ≡ true
+      by Three e formats = ap is_format_three e
+      by Two e formats =
+          absurd (false≢true (sym (none_of_three (greatest_unit enc) first parts piece.blocks are formats is.blocks) ∙ some))
 
-  none_switch : list_any is_switch (all_statements piece.blocks) ≡ false
-  none_switch = no_switches piece.names (conds_of parts) (all_statements piece.blocks) statements_fine
+  of_bytes : list_any is_switch (all_statements piece.blocks) ≡ true → piece.unit ≡ 1
+  of_bytes some = is.unit ∙ by enc (switches_bytes (greatest_unit enc) first parts piece.blocks are is.blocks some)
+    where
+      by : (given : Enc) → greatest_unit given ≡ 0xFF → unit_size given ≡ 1
+      by Byte e = refl
+      by Ucs2 e = absurd (omega (arith, e))
+      by Utf8 e = refl
+      by Utf16 e = absurd (omega (arith, e))
+      by Utf32 e = absurd (omega (arith, e))
 
-  table_fits : length piece.table ≡ table_size piece.blocks
-  table_fits =
-      ap (λ l. length l) is.table ∙ ap (λ n. 256 * n) (sym (no_groups piece.names (conds_of parts) (all_statements piece.blocks) statements_fine))
+  table_bytes : AllByRecursion IsByte piece.table
+  table_bytes = by parts some are is.tables
+    where
+      by : (list : List Part) → 0 < length list → AreFormed (greatest_unit enc) list
+          → AllByRecursion (λ (part : Part). part.given.demand.table ≡ piece.table) list → AllByRecursion IsByte piece.table
+      by [] some are same = absurd (omega (arith, some))
+      by (part ∷ list) some are same = let table = are.0.table in subst (λ l. AllByRecursion IsByte l) same.0 table.3
 
-  is_two : is_three piece.head ≡ false
-  is_two = ap is_three is.head
+  three : is_three piece.head ≡ true → is_format_three format ≡ true
+  three e = sym (ap is_three is.head) ∙ e
 
   -- ---- the whole
 
-  agrees : Agrees piece (head_with custom enc mode piece.blocks)
+  agrees : Agrees piece (head_with format custom enc mode piece.blocks)
   agrees = record { unit = is.unit; mode = mode_kept; regs = refl; mregs = refl; states = refl }
 
   conds_long : AllByRecursion (λ (case : CondCase). IsIdentifier case.cond × IsLong case.block) piece.conds
@@ -275,9 +294,11 @@ module _ (custom : Bool) (enc : Enc) (mode : Mode) (stores : Bool) (first : ℕ)
       (cases_short piece.names (conds_of parts) 0 first parts written (omega (arith, small, l)))
 
   pub parts_valid : IsShort piece.number → IfSome piece.eof (λ eof. eof < 2 ^ (8 * piece.unit)) → IsLine piece.line → AreAllowed piece.names → DoNotClash piece.names
-      → (custom ≡ true → name_primitives piece.names ≡ false)
+      → (custom ≡ true → name_primitives piece.names ≡ false) → (is_format_three format ≡ true → name_table piece.names ≡ false)
+      → (is_format_three format ≡ true → list_any names_table (all_statements piece.blocks) ≡ false)
+      → (is_format_three format ≡ true → list_any (is_like_block piece.number piece.names) (conds_of parts) ≡ false)
       → (piece.ctx ≡ true → list_any has_register_one (all_statements piece.blocks) ≡ true) → IsValid piece
-  parts_valid number eof line allowed differ free marked = record {
+  parts_valid number eof line allowed differ free no_table no_tag no_label marked = record {
     range = record {
       number = number;
       line = line;
@@ -285,7 +306,7 @@ module _ (custom : Bool) (enc : Enc) (mode : Mode) (stores : Bool) (first : ℕ)
       conds = conds_long;
       head = subst (λ (o : Option Head). IfSome o (λ head. IsShort head.regs × IsShort head.mregs × IsLong head.states)) (sym is.head)
           (regs_short piece.names (conds_of parts) piece.blocks statements_fine, mregs_short piece.names (conds_of parts) piece.blocks statements_fine, count_long);
-      table = subst (λ l. AllByRecursion IsByte l) (sym is.table) tt;
+      table = table_bytes;
     };
     unit = subst (λ n. (n ≡ 1) ⊎ ((n ≡ 2) ⊎ (n ≡ 4))) (sym is.unit) (size_is enc);
     eof = eof;
@@ -309,12 +330,12 @@ module _ (custom : Bool) (enc : Enc) (mode : Mode) (stores : Bool) (first : ℕ)
     names = allowed;
     names_differ = differ;
     no_primitive = λ e. free (sym (ap is_custom is.head) ∙ e);
-    of_three = λ e. absurd (false≢true (sym none_three ∙ e));
-    switches = λ e. absurd (false≢true (sym none_switch ∙ e));
-    table = table_fits;
-    no_table = λ e. absurd (false≢true (sym is_two ∙ e));
-    no_table_tag = λ e. absurd (false≢true (sym is_two ∙ e));
-    no_block_label = λ e. absurd (false≢true (sym is_two ∙ e));
+    of_three = of_format;
+    switches = of_bytes;
+    table = is.table;
+    no_table = λ e. no_table (three e);
+    no_table_tag = λ e. no_tag (three e);
+    no_block_label = λ e. subst (λ list. list_any (is_like_block piece.number piece.names) list ≡ false) (sym all_labels) (no_label (three e));
     head = subst (λ (o : Option Head). IfSome o (Agrees piece)) (sym is.head) agrees;
     spelled = are_written.0;
   }

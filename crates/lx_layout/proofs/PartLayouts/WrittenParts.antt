@@ -1,12 +1,15 @@
 -- All blocks of scanners one behind another can be written.
-use Rattle.std.specs.Prelude.{◌≡◌, ℕ, ◌+◌, ◌<◌, ◌≤◌, List, [], ◌∷◌, length, Option, true, false}
-use Rattle.std.proofs.Common.{arith, subst, sym}
+use Rattle.std.specs.Prelude.{◌≡◌, ℕ, ◌+◌, ◌<◌, ◌≤◌, List, [], ◌∷◌, ◌++◌, length, map, Option, true, false, refl}
+use Rattle.std.proofs.Common.{ap, arith, subst, sym}
+use Rattle.std.proofs.lemmas.List.{length-map}
 use Rattle.std.proofs.lemmas.Bool.{false≢true}
 use Rattle.std.specs.List.{AllByRecursion}
 use Rattle.lx_base.specs.Names.{Spellings}
 use Rattle.lx_base.specs.declared.limits.TheConstants.{STATEMENT_LIMIT}
 use Rattle.lx_ccode.specs.Statements.{all_statements}
-use Rattle.lx_ccode.specs.Validity.{EachBlockHasSpelling, EachHasSpelling, HasFewGroups, HasSpelling, IsLabel, IsLong, IsShort, JumpsBelow, NamesOneOf, ends_once}
+use Rattle.lx_ccode.specs.Validity.{AreSwitchCases, AreUnitsOnce, EachBlockHasSpelling, EachHasSpelling, HasFewGroups, HasSpelling, IsByte, IsLabel, IsLong, IsShort, IsSwitchCase, JumpsBelow, NamesOneOf, ends_once, units_of}
+use Rattle.lx_ccode.specs.declared.piece.SwitchCase.{SwitchCase}
+use Rattle.lx_dispatch.specs.Dispatch.{AreCases, all_units}
 use Rattle.lx_ccode.specs.declared.piece.CodeBlock.{CodeBlock}
 use Rattle.lx_ccode.specs.declared.piece.Stmt.{Stmt}
 use Rattle.lx_ccode.specs.declared.piece.Stmt.TheVariants.{Accept as SaveAccept, Back, Backup, Code, Cond, Copy, Count, End, Goto, IfAccept, IfEnd, IfIs, IfSet, IfUnit, Jump, Leave, MCopy, MSet, MUnset, Need, Peek, Restore, Set, Skip, State as Store, Switch, Tag, Try, Unset}
@@ -34,6 +37,36 @@ module _ (names : Spellings) (conds : List (List ℕ)) where
   blocks_fine greatest first parts are short written room =
       of_parts (λ code. AllByRecursion (IsSpellable names conds) code) 0 first parts (parts_fine greatest 0 first parts are short written room)
 
+  -- ---- a switch over units
+
+  units-all : (cases : List SwitchCase) → units_of cases ≡ all_units (map (λ (case : SwitchCase). case.units) cases)
+  units-all [] = refl
+  units-all (case ∷ cases) = ap (λ units. case.units ++ units) (units-all cases)
+
+  each_case : (count : ℕ) (cases : List SwitchCase) → count ≤ STATEMENT_LIMIT
+      → AllByRecursion (λ own. (0 < length own) × AllByRecursion IsByte own) (map (λ (case : SwitchCase). case.units) cases)
+      → AllByRecursion (λ block. block < count) (map (λ (case : SwitchCase). case.block) cases) → AllByRecursion IsSwitchCase cases
+  each_case count [] small units below = tt
+  each_case count (case ∷ cases) small units below = (
+    record { some = units.0.0; bytes = units.0.1; block = (let lt = below.0 in omega (arith, lt, small)) },
+    each_case count cases small units.1 below.1,
+  )
+
+  switch_spelled : (count : ℕ) (cases : List SwitchCase) (last : ℕ) → count ≤ STATEMENT_LIMIT → AreCases (map (λ (case : SwitchCase). case.units) cases)
+      → AllByRecursion (λ block. block < count) (map (λ (case : SwitchCase). case.block) cases ++ last ∷ []) → AreSwitchCases cases × IsLong last
+  switch_spelled count cases last small fine below =
+      let blocks : List ℕ = map (λ (case : SwitchCase). case.block) cases in
+      let some = fine.some in
+      let l : length (map (λ (case : SwitchCase). case.units) cases) ≡ length cases = length-map {B = List ℕ} cases (λ (case : SwitchCase). case.units) in
+      let lt = (each-back (λ block. block < count) (map (λ (case : SwitchCase). case.block) cases) (last ∷ []) below).0 in (
+        record {
+          some = omega (arith, some, l);
+          each = each_case count cases small fine.each (each-front (λ block. block < count) (map (λ (case : SwitchCase). case.block) cases) (last ∷ []) below);
+          once = subst (λ units. AreUnitsOnce units) (sym (units-all cases)) fine.once;
+        },
+        omega (arith, lt, small),
+      )
+
   -- ---- one statement
 
   spelled : (count : ℕ) (statement : Stmt) → count ≤ STATEMENT_LIMIT → IsSpellable names conds statement → JumpsBelow count statement
@@ -51,15 +84,15 @@ module _ (names : Spellings) (conds : List (List ℕ)) where
   spelled count (MUnset history) small fine below = omega (arith, fine)
   spelled count (MCopy history source) small fine below = (omega (arith, fine.0), omega (arith, fine.1))
   spelled count (IfUnit greatest block) small fine below = (fine, omega (arith, below.0, small))
-  spelled count (IfIs unit block) small fine below = absurd fine
-  spelled count (IfSet set block) small fine below = absurd fine
+  spelled count (IfIs unit block) small fine below = (fine, omega (arith, below.0, small))
+  spelled count (IfSet set block) small fine below = (fine, omega (arith, below.0, small))
   spelled count (IfAccept accept block) small fine below = (fine, omega (arith, below.0, small))
   spelled count (IfEnd block) small fine below = omega (arith, below.0, small)
   spelled count (Store number) small fine below = fine
   spelled count (Need units) small fine below = fine
   spelled count (Try block) small fine below = omega (arith, below.0, small)
   spelled count (Cond cond) small fine below = fine.0
-  spelled count (Switch cases last) small fine below = absurd fine
+  spelled count (Switch cases last) small fine below = switch_spelled count cases last small fine below
   spelled count (Goto block) small fine below = omega (arith, below.0, small)
   spelled count (Tag tag true history) small fine below = (fine.0, omega (arith, fine.1))
   spelled count (Tag tag false register) small fine below = fine

@@ -11,7 +11,7 @@ use Rattle.lx_layout.specs.Parts.{Demand, Part, asked, asked_below, asks_with, e
 use Rattle.lx_layout.specs.SuppliedLayout.{end_of, entry_part_size, reader_size, size_at_end, state_size, states_begin, supplied_layout}
 use Rattle.lx_layout.specs.Endings.{Ending}
 use Rattle.lx_layout.specs.Supplies.{Reader, Supply, entry}
-use Rattle.lx_layout.specs.TestTrees.{TestTree}
+use Rattle.lx_dispatch.specs.TestTrees.{TestTree}
 use Rattle.lx_layout.proofs.PartLayouts.ClosedParts.{length-parts}
 use Rattle.lx_layout.proofs.SuppliedLayouts.ApartPlaces.{size_some}
 use Rattle.lx_layout.proofs.SuppliedLayouts.Lengths.{length-layout}

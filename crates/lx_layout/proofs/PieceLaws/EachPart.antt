@@ -28,13 +28,13 @@ module _ (form : Form) (conds : List (List ℕ)) where
   abbrev pub AreFitScanners : List Source → Type 0
   AreFitScanners scanners = AllByRecursion (IsFitScanner form conds) scanners
 
-  module _ (Q : Part → Type 0) (f : (scanner : Source) (part : Part) → IsFitScanner form conds scanner
-      → IsPartOf (greatest_unit form.enc) (given_of form scanner) part → Q (with_given part (given_of form scanner))) where
-    pub each_part : (scanners : List Source) (parts : List Part) → AreFitScanners scanners → ArePartsOf form scanners parts → AllByRecursion Q parts
+  module _ (table : List ℕ) (Q : Part → Type 0) (f : (scanner : Source) (part : Part) → IsFitScanner form conds scanner
+      → IsPartOf (greatest_unit form.enc) (given_of form table scanner) part → Q (with_given part (given_of form table scanner))) where
+    pub each_part : (scanners : List Source) (parts : List Part) → AreFitScanners scanners → ArePartsOf form table scanners parts → AllByRecursion Q parts
     each_part [] [] fit are = tt
     each_part [] (part ∷ parts) fit are = absurd are
     each_part (scanner ∷ scanners) [] fit are = tt
     each_part (scanner ∷ scanners) (part ∷ parts) fit are = (
-      of_given Q part (given_of form scanner) are.0.is (f scanner part fit.0 are.0),
+      of_given Q part (given_of form table scanner) are.0.is (f scanner part fit.0 are.0),
       each_part scanners parts fit.1 are.1,
     )

@@ -26,8 +26,8 @@ use Rattle.lx_layout.proofs.PieceLaws.ScannerEntries.{AreDifferent, BeginsAt}
 use Rattle.lx_layout.proofs.PieceLaws.OneScanner.{FitsForm, scanner_stands}
 use Rattle.lx_layout.proofs.Validity.EachElement.{each-map}
 
-module _ (form : Form) where
-  pub same_length : (scanners : List Source) (parts : List Part) → ArePartsOf form scanners parts → length parts ≡ length scanners
+module _ (form : Form) (table : List ℕ) where
+  pub same_length : (scanners : List Source) (parts : List Part) → ArePartsOf form table scanners parts → length parts ≡ length scanners
   same_length [] [] are = refl
   same_length [] (part ∷ parts) are = absurd are
   same_length (scanner ∷ scanners) [] are = absurd are
@@ -35,7 +35,7 @@ module _ (form : Form) where
 
   -- ---- conditions
 
-  pub same_conds : (scanners : List Source) (parts : List Part) → ArePartsOf form scanners parts → formed.conds_of parts ≡ conds_of scanners
+  pub same_conds : (scanners : List Source) (parts : List Part) → ArePartsOf form table scanners parts → formed.conds_of parts ≡ conds_of scanners
   same_conds [] [] are = refl
   same_conds [] (part ∷ parts) are = absurd are
   same_conds (scanner ∷ scanners) [] are = absurd are
@@ -46,7 +46,7 @@ module _ (form : Form) where
       by None e = e
       by (Some own) e = ap (λ l. own ∷ l) e
 
-  other_conds : (own : Option (List ℕ)) (scanners : List Source) (parts : List Part) → ArePartsOf form scanners parts
+  other_conds : (own : Option (List ℕ)) (scanners : List Source) (parts : List Part) → ArePartsOf form table scanners parts
       → AllByRecursion (λ (other : Source). other.cond ≢ own) scanners → AllByRecursion (λ (other : Part). other.given.cond ≢ own) parts
   other_conds own [] [] are apart = tt
   other_conds own [] (part ∷ parts) are apart = absurd are
@@ -54,7 +54,7 @@ module _ (form : Form) where
   other_conds own (scanner ∷ scanners) (part ∷ parts) are apart =
       ((λ e. apart.0 (sym (ap (λ given. given.cond) are.0.is) ∙ e)), other_conds own scanners parts are.1 apart.1)
 
-  pub conds_differ : (scanners : List Source) (parts : List Part) → ArePartsOf form scanners parts → HaveDifferentConditions scanners → AreDifferent parts
+  pub conds_differ : (scanners : List Source) (parts : List Part) → ArePartsOf form table scanners parts → HaveDifferentConditions scanners → AreDifferent parts
   conds_differ [] [] are apart = tt
   conds_differ [] (part ∷ parts) are apart = absurd are
   conds_differ (scanner ∷ scanners) [] are apart = absurd are
@@ -73,7 +73,7 @@ module _ (form : Form) where
   own_given forgets endings statement own = own
 
   pub parts_act : (blocks : List CodeBlock) (all : List Source) (begin first : ℕ) (scanners : List Source) (parts : List Part)
-      → AreFormed (greatest_unit form.enc) parts → ArePartsOf form (sources_in blocks scanners) parts
+      → AreFormed (greatest_unit form.enc) parts → ArePartsOf form table (sources_in blocks scanners) parts
       → ((scanner : Source) → Contains scanners scanner → Contains all scanner)
       → EachPart (λ part begin first. AllByRecursion (λ code. AllByRecursion (IsActionOf all) code) (part_codes part begin first)) begin first parts
   parts_act blocks all begin first [] [] formed are within = tt
@@ -92,27 +92,26 @@ module _ (form : Form) where
     parts_act blocks all (begin + length (part_codes part begin first)) (first + given_asked part.given) scanners parts formed.1 are.1
         (λ other has. within other (suc has.0, (let lt = has.1 in omega (arith, lt)), has.2)),
   )
-
   -- ---- scanners
 
-  -- in blocks in which what was kept is forgotten before jumps
-  pub parts_in : (conds : List (List ℕ)) (piece : Piece) → FitsForm form piece → (begin first : ℕ) (scanners : List Source) (parts : List Part)
-      → AreFitScanners form conds (sources_in piece.blocks scanners) → ArePartsOf form (sources_in piece.blocks scanners) parts
-      → EachPart (λ part begin first. StandsFrom (code_of piece.blocks) begin (part_codes part begin first)) begin first parts
-      → EachPart (λ part begin first. AllByRecursion (λ code. AllByRecursion (NamesItsOwn part.given.auto) code) (part_codes part begin first)) begin first parts
-      → EachPart (BeginsAt piece.conds) begin first parts
-      → AllByRecursion (λ (scanner : Source). IsScannerIn (mode_of form.eof form.fill) form.enc (given_of form scanner) scanner.checks piece) scanners
-  parts_in conds piece ready begin first [] [] fit are stand own begins = tt
-  parts_in conds piece ready begin first [] (part ∷ parts) fit are stand own begins = tt
-  parts_in conds piece ready begin first (scanner ∷ scanners) [] fit are stand own begins = absurd are
-  parts_in conds piece ready begin first (scanner ∷ scanners) (part ∷ parts) fit are stand own begins = (
-    as_given (mode_of form.eof form.fill) form scanner piece
-        (scanner_stands form conds (source_in piece.blocks scanner) fit.0 part.halting part.trees begin first piece ready are.0.marked are.0.trees
-        (subst (λ given. StandsFrom (code_of piece.blocks) begin
-        (supplied_layout (given_supply given first) part.halting given.endings given.end_rule part.trees given.auto begin)) are.0.is stand.0) refl
-        (subst (λ given. AllByRecursion (λ code. AllByRecursion (NamesItsOwn given.auto) code)
-        (supplied_layout (given_supply given first) part.halting given.endings given.end_rule part.trees given.auto begin)) are.0.is own.0)
-        (subst (λ given. (cond : List ℕ) → MayBegin given.cond cond → entry_block piece.conds cond ≡ Some begin) are.0.is begins.0)),
-    parts_in conds piece ready (begin + length (part_codes part begin first)) (first + given_asked part.given) scanners parts fit.1 are.1 stand.1 own.1
-        begins.1,
-  )
+-- in blocks in which what was kept is forgotten before jumps
+pub parts_in : (form : Form) (conds : List (List ℕ)) (piece : Piece) → FitsForm form piece → (begin first : ℕ) (scanners : List Source) (parts : List Part)
+    → AreFitScanners form conds (sources_in piece.blocks scanners) → ArePartsOf form piece.table (sources_in piece.blocks scanners) parts
+    → EachPart (λ part begin first. StandsFrom (code_of piece.blocks) begin (part_codes part begin first)) begin first parts
+    → EachPart (λ part begin first. AllByRecursion (λ code. AllByRecursion (NamesItsOwn part.given.auto) code) (part_codes part begin first)) begin first parts
+    → EachPart (BeginsAt piece.conds) begin first parts
+    → AllByRecursion (λ (scanner : Source). IsScannerIn (mode_of form.eof form.fill) form.enc (given_of form piece.table scanner) scanner.checks piece) scanners
+parts_in form conds piece ready begin first [] [] fit are stand own begins = tt
+parts_in form conds piece ready begin first [] (part ∷ parts) fit are stand own begins = tt
+parts_in form conds piece ready begin first (scanner ∷ scanners) [] fit are stand own begins = absurd are
+parts_in form conds piece ready begin first (scanner ∷ scanners) (part ∷ parts) fit are stand own begins = (
+  as_given (mode_of form.eof form.fill) form piece.table scanner piece
+      (scanner_stands form conds (source_in piece.blocks scanner) fit.0 part.halting part.trees begin first piece ready are.0.marked are.0.trees
+      (subst (λ given. StandsFrom (code_of piece.blocks) begin
+      (supplied_layout (given_supply given first) part.halting given.endings given.end_rule part.trees given.auto begin)) are.0.is stand.0) refl
+      (subst (λ given. AllByRecursion (λ code. AllByRecursion (NamesItsOwn given.auto) code)
+      (supplied_layout (given_supply given first) part.halting given.endings given.end_rule part.trees given.auto begin)) are.0.is own.0)
+      (subst (λ given. (cond : List ℕ) → MayBegin given.cond cond → entry_block piece.conds cond ≡ Some begin) are.0.is begins.0)),
+  parts_in form conds piece ready (begin + length (part_codes part begin first)) (first + given_asked part.given) scanners parts fit.1 are.1 stand.1 own.1
+      begins.1,
+)

@@ -12,6 +12,7 @@ use Rattle.lx_base.specs.Spelling.{greatest_unit}
 use Rattle.lx_base.specs.declared.settings.Enc.{Enc}
 use Rattle.lx_base.specs.declared.settings.Enc.TheVariants.{Byte, Ucs2, Utf8, Utf16, Utf32}
 use Rattle.lx_ccode.specs.Validity.{IsShort}
+use Rattle.lx_dispatch.specs.Dispatch.{IsTable}
 use Rattle.lx_layout.specs.Endings.{Ending}
 use Rattle.lx_layout.specs.FormedParts.{AllStore, AreFormed, IsFormed}
 use Rattle.lx_layout.specs.PartPieces.{Suits}
@@ -30,30 +31,41 @@ end_unit form conds scanner fit some = by scanner.end_rule fit.end some
     by None h is = absurd (false≢true is)
     by (Some rule) h is = h.unit
 
-module _ (form : Form) (conds : List (List ℕ)) where
-  formed_part : (scanner : Source) (part : Part) → IsFitScanner form conds scanner → IsPartOf (greatest_unit form.enc) (given_of form scanner) part
-      → IsFormed (greatest_unit form.enc) (with_given part (given_of form scanner))
-  formed_part scanner part fit is = record {
+module _ (form : Form) (table : List ℕ) (conds : List (List ℕ)) where
+  formed_part : IsTable table → (scanner : Source) (part : Part) → IsFitScanner form conds scanner → IsPartOf (greatest_unit form.enc) (given_of form table scanner) part
+      → IsFormed (greatest_unit form.enc) (with_given part (given_of form table scanner))
+  formed_part is_table scanner part fit is = record {
     chosen = record { is = refl; marked = is.marked; trees = is.trees };
     auto = fit.formed;
     units = fit.units;
     ends = end_unit form conds scanner fit;
+    table = is_table;
   }
 
-  pub are_formed : (scanners : List Source) (parts : List Part) → AreFitScanners form conds scanners → ArePartsOf form scanners parts
+  pub are_formed : IsTable table → (scanners : List Source) (parts : List Part) → AreFitScanners form conds scanners → ArePartsOf form table scanners parts
       → AreFormed (greatest_unit form.enc) parts
-  are_formed scanners parts fit are =
-      each_part form conds (IsFormed (greatest_unit form.enc)) (λ scanner part fits is. formed_part scanner part fits is) scanners parts fit are
+  are_formed is_table scanners parts fit are =
+      each_part form conds table (IsFormed (greatest_unit form.enc)) (λ scanner part fits is. formed_part is_table scanner part fits is) scanners parts fit are
 
-  pub all_store : (scanners : List Source) (parts : List Part) → AreFitScanners form conds scanners → ArePartsOf form scanners parts
+  pub all_store : (scanners : List Source) (parts : List Part) → AreFitScanners form conds scanners → ArePartsOf form table scanners parts
       → AllStore form.stores parts
   all_store scanners parts fit are =
-      each_part form conds (λ (part : Part). part.given.demand.stores ≡ form.stores) (λ scanner part fits is. refl) scanners parts fit are
+      each_part form conds table (λ (part : Part). part.given.demand.stores ≡ form.stores) (λ scanner part fits is. refl) scanners parts fit are
 
   pub all_eof : (eof : Option ℕ) → eof ≡ form.eof → (scanners : List Source) (parts : List Part) → AreFitScanners form conds scanners
-      → ArePartsOf form scanners parts → AllByRecursion (λ (part : Part). part.given.demand.eof ≡ eof) parts
+      → ArePartsOf form table scanners parts → AllByRecursion (λ (part : Part). part.given.demand.eof ≡ eof) parts
   all_eof eof same scanners parts fit are =
-      each_part form conds (λ (part : Part). part.given.demand.eof ≡ eof) (λ scanner part fits is. sym same) scanners parts fit are
+      each_part form conds table (λ (part : Part). part.given.demand.eof ≡ eof) (λ scanner part fits is. sym same) scanners parts fit are
+
+  pub all_formats : (scanners : List Source) (parts : List Part) → AreFitScanners form conds scanners → ArePartsOf form table scanners parts
+      → AllByRecursion (λ (part : Part). part.given.demand.format ≡ form.format) parts
+  all_formats scanners parts fit are =
+      each_part form conds table (λ (part : Part). part.given.demand.format ≡ form.format) (λ scanner part fits is. refl) scanners parts fit are
+
+  pub all_tables : (scanners : List Source) (parts : List Part) → AreFitScanners form conds scanners → ArePartsOf form table scanners parts
+      → AllByRecursion (λ (part : Part). part.given.demand.table ≡ table) parts
+  all_tables scanners parts fit are =
+      each_part form conds table (λ (part : Part). part.given.demand.table ≡ table) (λ scanner part fits is. refl) scanners parts fit are
 
   -- ---- the mode
 
@@ -61,11 +73,11 @@ module _ (form : Form) (conds : List (List ℕ)) where
   none_leads [] e = refl
   none_leads (edge ∷ edges) e = absurd (cc)
 
-  suits_part : (scanner : Source) (part : Part) → IsFitScanner form conds scanner → IsPartOf (greatest_unit form.enc) (given_of form scanner) part
-      → Suits (mode_of form.eof form.fill) (with_given part (given_of form scanner))
+  suits_part : (scanner : Source) (part : Part) → IsFitScanner form conds scanner → IsPartOf (greatest_unit form.enc) (given_of form table scanner) part
+      → Suits (mode_of form.eof form.fill) (with_given part (given_of form table scanner))
   suits_part scanner part fit is = by form.eof form.fill refl refl
     where
-      by : (o : Option ℕ) (t : Bool) → form.eof ≡ o → form.fill ≡ t → Suits (mode_of o t) (with_given part (given_of form scanner))
+      by : (o : Option ℕ) (t : Bool) → form.eof ≡ o → form.fill ≡ t → Suits (mode_of o t) (with_given part (given_of form table scanner))
       by None false e f = (e, λ number. ap (λ o. checked_by (counted o form.fill scanner.checks) number) e ∙ ap (λ t. checked_by (counted None t scanner.checks) number) f)
       by None true e f = record {
         eof = e;
@@ -80,10 +92,10 @@ module _ (form : Form) (conds : List (List ℕ)) where
           (ap (λ o. is_some o) e, ap (λ o. is_some o && form.fill) e ∙ f)
       by (Some unit) true e f = record { eof = ap (λ o. is_some o) e; tries = ap (λ o. is_some o && form.fill) e ∙ f }
 
-  pub all_suit : (scanners : List Source) (parts : List Part) → AreFitScanners form conds scanners → ArePartsOf form scanners parts
+  pub all_suit : (scanners : List Source) (parts : List Part) → AreFitScanners form conds scanners → ArePartsOf form table scanners parts
       → AllByRecursion (Suits (mode_of form.eof form.fill)) parts
   all_suit scanners parts fit are =
-      each_part form conds (Suits (mode_of form.eof form.fill)) (λ scanner part fits is. suits_part scanner part fits is) scanners parts fit are
+      each_part form conds table (Suits (mode_of form.eof form.fill)) (λ scanner part fits is. suits_part scanner part fits is) scanners parts fit are
 
   -- ---- what is written
 
@@ -129,8 +141,8 @@ module _ (form : Form) (conds : List (List ℕ)) where
       by None le = tt
       by (Some unit) le = short form.enc unit le
 
-  written_part : IfSome form.eof (λ unit. unit ≤ greatest_unit form.enc) → (scanner : Source) (part : Part) → IsFitScanner form conds scanner → IsPartOf (greatest_unit form.enc) (given_of form scanner) part
-      → PartCanBeWritten form.names conds (with_given part (given_of form scanner))
+  written_part : IfSome form.eof (λ unit. unit ≤ greatest_unit form.enc) → (scanner : Source) (part : Part) → IsFitScanner form conds scanner → IsPartOf (greatest_unit form.enc) (given_of form table scanner) part
+      → PartCanBeWritten form.names conds (with_given part (given_of form table scanner))
   written_part eof scanner part fit is = record {
     label = fit.label;
     checks = checks_short scanner fit;
@@ -140,7 +152,7 @@ module _ (form : Form) (conds : List (List ℕ)) where
     eof = unit_short eof;
   }
 
-  pub all_written : IfSome form.eof (λ unit. unit ≤ greatest_unit form.enc) → (scanners : List Source) (parts : List Part) → AreFitScanners form conds scanners → ArePartsOf form scanners parts
+  pub all_written : IfSome form.eof (λ unit. unit ≤ greatest_unit form.enc) → (scanners : List Source) (parts : List Part) → AreFitScanners form conds scanners → ArePartsOf form table scanners parts
       → PartsCanBeWritten form.names conds parts
   all_written eof scanners parts fit are =
-      each_part form conds (PartCanBeWritten form.names conds) (λ scanner part fits is. written_part eof scanner part fits is) scanners parts fit are
+      each_part form conds table (PartCanBeWritten form.names conds) (λ scanner part fits is. written_part eof scanner part fits is) scanners parts fit are

@@ -29,8 +29,8 @@ use Rattle.lx_layout.specs.RightInMode.{AreEnough, AreStoredBy, AsksNothing, Hav
 use Rattle.lx_layout.specs.Supplied.{Serves, ServesEntry}
 use Rattle.lx_layout.specs.SuppliedLayout.{EachReader, entry_of, fall_block, number_in, place_of, rule_block, supplied_layout}
 use Rattle.lx_layout.specs.Supplies.{Reader, Supply}
-use Rattle.lx_layout.specs.TestTrees.{IsTreeOf, PicksAs, TestTree, TestsWithin}
-use Rattle.lx_ccode.specs.Machine.{is_among}
+use Rattle.lx_dispatch.specs.Dispatch.{AreTestsOf, top_of}
+use Rattle.lx_dispatch.specs.TestTrees.{PicksAs, TestTree}
 use Rattle.lx_layout.proofs.BlockLayouts.Questions.{FitsTable}
 use Rattle.lx_layout.proofs.PieceLaws.EnoughChecks.{checks_enough}
 use Rattle.lx_layout.proofs.PieceLaws.FitParts.{end_unit}
@@ -38,7 +38,8 @@ use Rattle.lx_layout.proofs.PieceLaws.PartEntries.{entry_first}
 use Rattle.lx_layout.proofs.ScannerLaws.CheckedLayouts.{layout_checks}
 use Rattle.lx_layout.proofs.ScannerLaws.EndedLayouts.{layout_ends_rules}
 use Rattle.lx_layout.proofs.Supplied.SuppliedMatches.{supplied_right}
-use Rattle.lx_layout.proofs.SuppliedLayouts.CarriedLayouts.{each_reader, layout_carries_at}
+use Rattle.lx_layout.proofs.SuppliedLayouts.CarriedLayouts.{layout_carries_at}
+use Rattle.lx_layout.proofs.SuppliedLayouts.LeadingTrees.{LeadsWithin, each_reader, leads_within}
 use Rattle.lx_layout.proofs.SuppliedLayouts.LayoutServes.{layout_entered, layout_serves}
 use Rattle.lx_layout.proofs.ScannerLaws.FewLayouts.{layout_tests_few}
 use Rattle.lx_layout.proofs.ScannerLaws.UncheckedStarts.{layout_checked}
@@ -51,12 +52,11 @@ unit_within Utf8 unit lt = omega (arith, lt)
 unit_within Utf16 unit lt = omega (arith, lt)
 unit_within Utf32 unit lt = omega (arith, lt)
 
--- What is known of a piece: its unit, and that at the end, and that it has no sets; that each state is stored once, and none where none is to be; and that it asks for
+-- What is known of a piece: its unit, and that at the end; that each state is stored once, and none where none is to be; and that it asks for
 -- nothing where no refill is asked for.
 pub record FitsForm (form : Form) (piece : Piece) : Type 0 where
   pub eof : piece.eof ≡ form.eof
   pub unit : piece.unit ≡ unit_size form.enc
-  pub table : piece.table ≡ []
   pub once : AreOnce (states_from 0 piece.blocks)
   pub none : form.stores ≡ false → list_any is_state (all_statements piece.blocks) ≡ false
   pub asks : form.fill ≡ false → AsksNothing piece
@@ -64,34 +64,38 @@ pub record FitsForm (form : Form) (piece : Piece) : Type 0 where
 module _ (form : Form) (conds : List (List ℕ)) (scanner : Source) (fit : IsFitScanner form conds scanner) (halting : Halting)
     (trees : Reader → TestTree (Option ℕ)) (begin first : ℕ) (piece : Piece) (ready : FitsForm form piece)
     (marked : AreHalting form.eof scanner.end_rule (greatest_unit form.enc) scanner.auto halting)
-    (are : EachReader IsTreeOf form.eof (greatest_unit form.enc) trees scanner.auto)
+    (are : EachReader (AreTestsOf form.format piece.table form.eof (greatest_unit form.enc)) form.eof (greatest_unit form.enc) trees scanner.auto)
     (stands : StandsFrom (code_of piece.blocks) begin
-    (supplied_layout (given_supply (given_of form scanner) first) halting scanner.endings scanner.end_rule trees scanner.auto begin))
+    (supplied_layout (given_supply (given_of form piece.table scanner) first) halting scanner.endings scanner.end_rule trees scanner.auto begin))
     (told : endings_in piece.blocks scanner.endings ≡ scanner.endings) where
   abbrev supply : Supply
-  supply = given_supply (given_of form scanner) first
+  supply = given_supply (given_of form piece.table scanner) first
 
   abbrev entry : ℕ
   entry = entry_of supply halting scanner.end_rule trees scanner.auto begin
 
-  tests : EachReader TestsWithin form.eof (greatest_unit form.enc) trees scanner.auto
-  tests = each_reader IsTreeOf TestsWithin (λ split tree is. is.ends) form.eof (greatest_unit form.enc) trees scanner.auto are
+  tests : EachReader LeadsWithin form.eof (greatest_unit form.enc) trees scanner.auto
+  tests =
+      each_reader (AreTestsOf form.format piece.table form.eof (greatest_unit form.enc)) LeadsWithin
+      (λ split tree is. leads_within (length piece.table) (greatest_unit form.enc) split tree is.within) form.eof (greatest_unit form.enc) trees scanner.auto are
 
-  picks : EachReader (PicksAs supply.among) form.eof (greatest_unit form.enc) trees scanner.auto
-  picks = each_reader IsTreeOf (PicksAs supply.among) (λ split tree is. is.picks supply.among) form.eof (greatest_unit form.enc) trees scanner.auto are
+  picks : EachReader (PicksAs (top_of form.eof (greatest_unit form.enc)) supply.among) form.eof (greatest_unit form.enc) trees scanner.auto
+  picks =
+      each_reader (AreTestsOf form.format piece.table form.eof (greatest_unit form.enc)) (PicksAs (top_of form.eof (greatest_unit form.enc)) supply.among)
+      (λ split tree is. is.picks) form.eof (greatest_unit form.enc) trees scanner.auto are
 
   stored : (supply.stored ≡ None) ⊎ AreOnce (states_from 0 piece.blocks)
   stored = inr ready.once
 
   among : FitsTable supply.among piece
-  among set unit = ap (λ table. is_among table set unit) (sym ready.table)
+  among set unit = refl
 
   carried_as : AllByRecursion (λ code. AllByRecursion (NamesItsOwn scanner.auto) code)
       (supplied_layout supply halting scanner.endings scanner.end_rule trees scanner.auto begin)
       → (carries : Carries piece entry scanner.endings scanner.auto) × (carries.place ≡ place_of supply halting scanner.end_rule trees scanner.auto begin)
   carried_as own =
       layout_carries_at piece scanner.endings scanner.end_rule (greatest_unit form.enc) scanner.auto supply halting trees begin fit.formed fit.units fit.agreed
-      (end_unit form conds scanner fit) are marked stands stored ready.eof among
+      (end_unit form conds scanner fit) picks tests marked stands stored ready.eof among
       (λ unit lt. unit_within form.enc unit (subst (λ n. unit < 2 ^ (8 * n)) ready.unit lt)) own
 
   carried : AllByRecursion (λ code. AllByRecursion (NamesItsOwn scanner.auto) code)
@@ -154,7 +158,7 @@ module _ (form : Form) (conds : List (List ℕ)) (scanner : Source) (fit : IsFit
   stored_by = by form.stores refl
     where
       by : (t : Bool) → form.stores ≡ t
-          → AreStoredBy (stored_from (given_of form scanner).demand scanner.end_rule scanner.auto t first) piece
+          → AreStoredBy (stored_from (given_of form piece.table scanner).demand scanner.end_rule scanner.auto t first) piece
       by false e = ready.none e
       by true e = ready.once
 
@@ -186,7 +190,7 @@ module _ (form : Form) (conds : List (List ℕ)) (scanner : Source) (fit : IsFit
   pub scanner_stands : AllByRecursion (λ code. AllByRecursion (NamesItsOwn scanner.auto) code)
       (supplied_layout supply halting scanner.endings scanner.end_rule trees scanner.auto begin)
       → ((cond : List ℕ) → MayBegin scanner.cond cond → entry_block piece.conds cond ≡ Some begin)
-      → IsScannerIn (mode_of form.eof form.fill) form.enc (given_of form scanner) scanner.checks piece
+      → IsScannerIn (mode_of form.eof form.fill) form.enc (given_of form piece.table scanner) scanner.checks piece
   scanner_stands own begins =
       let at : entry ≡ begin = entry_first supply halting trees scanner.auto scanner.end_rule begin in
       let enters = λ (cond : List ℕ) (may : MayBegin scanner.cond cond). begins cond may ∙ ap (λ n. Some n) (sym at) in
@@ -198,8 +202,8 @@ module _ (form : Form) (conds : List (List ℕ)) (scanner : Source) (fit : IsFit
         needs = needs carries.0.place carries.1;
         rules = subst (λ endings. EndsRules piece entry endings) (sym told) rules_end;
         tests =
-            subst (λ p. HasFewTests piece entry p form.eof (greatest_unit form.enc) scanner.auto) (sym carries.1)
-            (layout_tests_few piece supply halting scanner.endings scanner.end_rule (greatest_unit form.enc) trees scanner.auto begin fit.formed are
+            subst (λ p. HasFewTests piece entry form.format p form.eof (greatest_unit form.enc) scanner.auto) (sym carries.1)
+            (layout_tests_few piece form.format supply halting scanner.endings scanner.end_rule (greatest_unit form.enc) trees scanner.auto begin fit.formed are
             (end_unit form conds scanner fit) marked stands stored);
         right = λ policy patterns cond is ends same may. is_right policy patterns cond is ends same (enters cond may);
       }

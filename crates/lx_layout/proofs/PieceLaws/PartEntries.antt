@@ -8,7 +8,7 @@ use Rattle.lx_auto.specs.declared.automaton.State.{State}
 use Rattle.lx_layout.specs.Halting.{Halting}
 use Rattle.lx_layout.specs.SuppliedLayout.{entry_of, fall_block, place_by, place_in, rule_block, states_begin}
 use Rattle.lx_layout.specs.Supplies.{Reader, Supply}
-use Rattle.lx_layout.specs.TestTrees.{TestTree}
+use Rattle.lx_dispatch.specs.TestTrees.{TestTree}
 
 module _ (supply : Supply) (halting : Halting) (trees : Reader → TestTree (Option ℕ)) (auto : Auto) where
   first_place : (rules : ℕ → ℕ) (fall begin from : ℕ) (edges : List Edge) (accept : Option Accept)

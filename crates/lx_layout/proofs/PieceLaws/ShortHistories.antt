@@ -1,5 +1,5 @@
 -- Histories of scanners one behind another have numbers of 32 bits, and no state is stored where none is to be.
-use Rattle.std.specs.Prelude.{◌≡◌, ◌+◌, ◌≤◌, [], List, false, length}
+use Rattle.std.specs.Prelude.{◌≡◌, ℕ, ◌+◌, ◌≤◌, [], List, false, length}
 use Rattle.std.proofs.Common.{ap, arith, subst, sym}
 use Rattle.std.proofs.lemmas.List.Elements.{recursion_from_All}
 use Rattle.std.specs.List.{AllByRecursion}
@@ -10,6 +10,7 @@ use Rattle.lx_ccode.specs.States.{states_from}
 use Rattle.lx_ccode.specs.Statements.{statement_count}
 use Rattle.lx_ccode.specs.Validity.{IsLong, IsShort}
 use Rattle.lx_ccode.specs.declared.piece.CodeBlock.{CodeBlock}
+use Rattle.lx_dispatch.specs.Dispatch.{IsTable}
 use Rattle.lx_layout.specs.FormedParts as formed
 use Rattle.lx_layout.specs.FormedParts.{AllStore, AreFormed, all_asked}
 use Rattle.lx_layout.specs.Parts.{Part, parts_blocks}
@@ -27,18 +28,18 @@ use Rattle.lx_layout.proofs.PieceLaws.EachPart.{AreFitScanners}
 use Rattle.lx_layout.proofs.PieceLaws.FitParts.{all_store, all_written, are_formed}
 use Rattle.lx_layout.proofs.PieceLaws.EachScanner.{same_conds}
 
-module _ (form : Form) (scanners : List Source) (parts : List Part) (blocks : List CodeBlock) (fit : AreFit form scanners) (are : ArePartsOf form scanners parts)
+module _ (form : Form) (table : List ℕ) (is_table : IsTable table) (scanners : List Source) (parts : List Part) (blocks : List CodeBlock) (fit : AreFit form scanners) (are : ArePartsOf form table scanners parts)
     (is : blocks ≡ parts_blocks 0 form.first_state parts) (small : statement_count blocks ≤ STATEMENT_LIMIT) where
   each : AreFitScanners form (conds_of scanners) scanners
   each = recursion_from_All _ scanners fit.each
 
   formed_parts : AreFormed (greatest_unit form.enc) parts
-  formed_parts = are_formed form (conds_of scanners) scanners parts each are
+  formed_parts = are_formed form table (conds_of scanners) is_table scanners parts each are
 
   written : PartsCanBeWritten form.names (formed.conds_of parts) parts
   written =
-      subst (λ list. PartsCanBeWritten form.names list parts) (sym (same_conds form scanners parts are))
-      (all_written form (conds_of scanners) fit.eof scanners parts each are)
+      subst (λ list. PartsCanBeWritten form.names list parts) (sym (same_conds form table scanners parts are))
+      (all_written form table (conds_of scanners) fit.eof scanners parts each are)
 
   room : IsLong (form.first_state + all_asked parts)
   room =
@@ -58,4 +59,4 @@ module _ (form : Form) (scanners : List Source) (parts : List Part) (blocks : Li
   pub states_none : form.stores ≡ false → states_from 0 blocks ≡ []
   states_none none =
       no_states (greatest_unit form.enc) form.first_state parts blocks formed_parts
-      (subst (λ stores. AllStore stores parts) none (all_store form (conds_of scanners) scanners parts each are)) is
+      (subst (λ stores. AllStore stores parts) none (all_store form table (conds_of scanners) scanners parts each are)) is

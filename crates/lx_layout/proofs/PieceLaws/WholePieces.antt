@@ -6,12 +6,14 @@ use Rattle.std.proofs.lemmas.List.{length-map}
 use Rattle.std.proofs.lemmas.List.Elements.{recursion_from_All}
 use Rattle.std.proofs.lemmas.List.FromFn.{length-range_with_len}
 use Rattle.std.specs.List.{AllByRecursion, list_any, range_with_len}
-use Rattle.lx_base.specs.Names.{AreAllowed, DoNotClash, name_primitives}
+use Rattle.lx_base.specs.Names.{AreAllowed, DoNotClash, name_primitives, name_table}
 use Rattle.lx_base.specs.Spelling.{greatest_unit}
 use Rattle.lx_base.specs.declared.settings.Enc.{Enc}
 use Rattle.lx_base.specs.declared.settings.Enc.TheVariants.{Byte, Ucs2, Utf8, Utf16, Utf32}
 use Rattle.lx_base.specs.declared.limits.TheConstants.{STATEMENT_LIMIT}
-use Rattle.lx_ccode.specs.Counts.{state_count}
+use Rattle.lx_ccode.specs.Counts.{state_count, table_size}
+use Rattle.lx_ccode.specs.Heads.{is_format_three}
+use Rattle.lx_ccode.specs.Labels.{is_like_block}
 use Rattle.lx_ccode.specs.States.{states_from}
 use Rattle.lx_ccode.specs.Statements.{all_statements, has_register_one, is_refill, is_state, statement_count}
 use Rattle.lx_ccode.specs.Validity.{IsLine, IsLong, IsShort, IsValid, labels}
@@ -20,6 +22,7 @@ use Rattle.lx_ccode.specs.declared.piece.Mode.TheVariants.{Count, Eof, EofFixed,
 use Rattle.lx_ccode.specs.declared.piece.Piece.{Piece}
 use Rattle.lx_ccode.specs.declared.piece.StateCase.{StateCase}
 use Rattle.lx_encode.specs.Units.{unit_size}
+use Rattle.lx_dispatch.specs.Dispatch.{IsTable}
 use Rattle.lx_layout.specs.Forgetting.{JumpsForget}
 use Rattle.lx_layout.specs.FormedParts as formed
 use Rattle.lx_layout.specs.FormedParts.{AllStore, AreFormed, all_asked}
@@ -41,11 +44,12 @@ use Rattle.lx_layout.proofs.PartLayouts.ShortNumbers.{blocks_few}
 use Rattle.lx_layout.proofs.PartLayouts.ValidParts.{counts_nothing, parts_valid, tries_nothing}
 use Rattle.lx_layout.proofs.PieceLaws.AskedFew.{all_few}
 use Rattle.lx_layout.proofs.PieceLaws.EachPart.{AreFitScanners}
-use Rattle.lx_layout.proofs.PieceLaws.FitParts.{all_eof, all_store, all_suit, all_written, are_formed}
+use Rattle.lx_layout.proofs.PieceLaws.FitParts.{all_eof, all_formats, all_store, all_suit, all_tables, all_written, are_formed}
 use Rattle.lx_layout.proofs.PieceLaws.ScannerEntries.{AreDifferent, BeginsAt, cases_of, conds_distinct, parts_enter}
 use Rattle.lx_layout.proofs.PieceLaws.EachScanner.{conds_differ, parts_act, parts_in, same_conds, same_length}
 use Rattle.lx_layout.proofs.PieceLaws.OneScanner.{FitsForm}
 use Rattle.lx_layout.proofs.PieceLaws.StoredRefills.{refills_none, stored_blocks}
+use Rattle.lx_layout.proofs.PieceLaws.TableTags.{no_table_tags}
 use Rattle.lx_layout.proofs.Validity.EachElement.{each-map}
 
 and_right : (a b : Bool) → (a && b) ≡ true → b ≡ true
@@ -61,7 +65,8 @@ size_fits Utf16 unit le = omega (arith, le)
 size_fits Utf32 unit le = omega (arith, le)
 
 module _ (form : Form) (given : List Source) (parts : List Part) (piece : Piece) (fits : AreFit form given)
-    (are : ArePartsOf form (sources_in piece.blocks given) parts)
+    (are : ArePartsOf form piece.table (sources_in piece.blocks given) parts) (is_table : IsTable piece.table)
+    (size : length piece.table ≡ table_size piece.blocks)
     (short : IsShort form.number) (blocks : piece.blocks ≡ parts_blocks 0 form.first_state parts)
     (small : statement_count piece.blocks ≤ STATEMENT_LIMIT) (fields : HasFields form (labels piece.blocks) piece)
     (states : IfSome piece.states (λ cases. cases ≡ states_from 0 piece.blocks)) (conds : piece.conds ≡ cond_cases 0 piece.blocks)
@@ -80,22 +85,22 @@ module _ (form : Form) (given : List Source) (parts : List Part) (piece : Piece)
   each = recursion_from_All _ scanners fit.each
 
   are_parts : AreFormed greatest parts
-  are_parts = are_formed form (conds_of scanners) scanners parts each are
+  are_parts = are_formed form piece.table (conds_of scanners) is_table scanners parts each are
 
   store : AllStore form.stores parts
-  store = all_store form (conds_of scanners) scanners parts each are
+  store = all_store form piece.table (conds_of scanners) scanners parts each are
 
   suit : AllByRecursion (Suits (mode_of form.eof form.fill)) parts
-  suit = all_suit form (conds_of scanners) scanners parts each are
+  suit = all_suit form piece.table (conds_of scanners) scanners parts each are
 
   written : PartsCanBeWritten piece.names (formed.conds_of parts) parts
   written =
-      subst (λ list. PartsCanBeWritten piece.names list parts) (sym (same_conds form scanners parts are))
+      subst (λ list. PartsCanBeWritten piece.names list parts) (sym (same_conds form piece.table scanners parts are))
       (subst (λ names. PartsCanBeWritten names (conds_of scanners) parts) (sym fields.names)
-      (all_written form (conds_of scanners) fit.eof scanners parts each are))
+      (all_written form piece.table (conds_of scanners) fit.eof scanners parts each are))
 
   apart : AreDifferent parts
-  apart = conds_differ form scanners parts are fit.different
+  apart = conds_differ form piece.table scanners parts are fit.different
 
   few_asked : all_asked parts ≤ statement_count piece.blocks
   few_asked =
@@ -110,15 +115,17 @@ module _ (form : Form) (given : List Source) (parts : List Part) (piece : Piece)
   cases : piece.conds ≡ parts_of.cond_cases 0 form.first_state parts
   cases = conds ∙ ap (λ l. cond_cases 0 l) blocks ∙ cases_of greatest 0 form.first_state parts are_parts
 
-  of_parts_piece : parts_of.IsPieceOf form.custom form.enc (mode_of form.eof form.fill) form.first_state parts piece
+  of_parts_piece : parts_of.IsPieceOf form.format form.custom form.enc (mode_of form.eof form.fill) form.first_state parts piece
   of_parts_piece = record {
     blocks = blocks;
     head = fields.head;
     unit = fields.unit;
-    eof = all_eof form (conds_of scanners) piece.eof fields.eof scanners parts each are;
+    eof = all_eof form piece.table (conds_of scanners) piece.eof fields.eof scanners parts each are;
     states = by piece.states refl states;
     conds = cases;
-    table = fields.table;
+    formats = all_formats form piece.table (conds_of scanners) scanners parts each are;
+    tables = all_tables form piece.table (conds_of scanners) scanners parts each are;
+    table = size;
   }
     where
       by : (o : Option (List StateCase)) → piece.states ≡ o → IfSome o (λ cases. cases ≡ states_from 0 piece.blocks)
@@ -127,7 +134,7 @@ module _ (form : Form) (given : List Source) (parts : List Part) (piece : Piece)
       by (Some list) e is = inr (e ∙ ap (λ l. Some l) is)
 
   some_part : 0 < length parts
-  some_part = let some = fit.some in let l = same_length form scanners parts are in omega (arith, some, l)
+  some_part = let some = fit.some in let l = same_length form piece.table scanners parts are in omega (arith, some, l)
 
   unit_fits : IfSome piece.eof (λ eof. eof < 2 ^ (8 * piece.unit))
   unit_fits =
@@ -138,13 +145,22 @@ module _ (form : Form) (given : List Source) (parts : List Part) (piece : Piece)
       by None le = tt
       by (Some unit) le = size_fits form.enc unit le
 
+  no_label : is_format_three form.format ≡ true → list_any (is_like_block piece.number piece.names) (formed.conds_of parts) ≡ false
+  no_label three =
+      subst (λ list. list_any (is_like_block piece.number piece.names) list ≡ false) (sym (same_conds form piece.table scanners parts are))
+      (subst (λ number. list_any (is_like_block number piece.names) (conds_of scanners) ≡ false) (sym fields.number)
+      (subst (λ names. list_any (is_like_block form.number names) (conds_of scanners) ≡ false) (sym fields.names) (fit.no_block_label three)))
+
   is_valid : IsValid piece
   is_valid =
-      parts_valid form.custom form.enc (mode_of form.eof form.fill) form.stores form.first_state parts piece some_part are_parts suit store written
+      parts_valid form.format form.custom form.enc (mode_of form.eof form.fill) form.stores form.first_state parts piece some_part are_parts suit store written
       (conds_distinct parts apart) of_parts_piece small room (subst IsShort (sym fields.number) short) unit_fits
       (subst IsLine (sym fields.line) fit.line)
       (subst AreAllowed (sym fields.names) fit.names) (subst DoNotClash (sym fields.names) fit.names_differ)
       (λ custom. subst (λ names. name_primitives names ≡ false) (sym fields.names) (fit.no_primitive custom))
+      (λ three. subst (λ names. name_table names ≡ false) (sym fields.names) (fit.no_table three))
+      (λ three. no_table_tags form piece.table (conds_of scanners) three form.first_state scanners parts piece.blocks are_parts each are blocks)
+      no_label
       (λ marked. and_right form.context (list_any has_register_one (all_statements piece.blocks)) (sym fields.ctx ∙ marked))
 
   -- ---- what is stored, and where refills are asked for
@@ -202,19 +218,19 @@ module _ (form : Form) (given : List Source) (parts : List Part) (piece : Piece)
       subst (λ l. AllByRecursion (IsActionOf given) (all_statements l)) (sym blocks)
       (of_statements (IsActionOf given) (parts_blocks 0 form.first_state parts)
       (of_parts (λ code. AllByRecursion (IsActionOf given) code) 0 form.first_state parts
-      (parts_act form piece.blocks given 0 form.first_state given parts are_parts are (λ scanner has. has))))
+      (parts_act form piece.table piece.blocks given 0 form.first_state given parts are_parts are (λ scanner has. has))))
 
   ready : FitsForm form piece
-  ready = record { eof = fields.eof; unit = fields.unit; table = fields.table; once = is_valid.states_differ; none = nothing; asks = asks_nothing }
+  ready = record { eof = fields.eof; unit = fields.unit; once = is_valid.states_differ; none = nothing; asks = asks_nothing }
 
   begin : EachPart (BeginsAt piece.conds) 0 form.first_state parts
   begin =
       subst (λ l. EachPart (BeginsAt l) 0 form.first_state parts) (sym cases)
       (parts_enter form.first_state parts apart
-      (subst (λ list. (length list ≡ length parts) ⊎ (length parts ≡ 1)) (sym (same_conds form scanners parts are))
-      (subst (λ n. (length (conds_of scanners) ≡ n) ⊎ (n ≡ 1)) (sym (same_length form scanners parts are)) fit.conds)))
+      (subst (λ list. (length list ≡ length parts) ⊎ (length parts ≡ 1)) (sym (same_conds form piece.table scanners parts are))
+      (subst (λ n. (length (conds_of scanners) ≡ n) ⊎ (n ≡ 1)) (sym (same_length form piece.table scanners parts are)) fit.conds)))
 
-  stand : AllByRecursion (λ (scanner : Source). IsScannerIn (mode_of form.eof form.fill) form.enc (given_of form scanner) scanner.checks piece) given
+  stand : AllByRecursion (λ (scanner : Source). IsScannerIn (mode_of form.eof form.fill) form.enc (given_of form piece.table scanner) scanner.checks piece) given
   stand =
       parts_in form (conds_of scanners) piece ready 0 form.first_state given parts each are
       (parts_stand form.first_state parts piece.blocks blocks) (parts_own greatest 0 form.first_state parts are_parts) begin
@@ -223,7 +239,7 @@ module _ (form : Form) (given : List Source) (parts : List Part) (piece : Piece)
   is_piece = record {
     valid = is_valid;
     fields = subst (λ list. HasFields form list piece)
-        (parts_labelled greatest form.first_state parts piece.blocks are_parts blocks ∙ same_conds form scanners parts are
+        (parts_labelled greatest form.first_state parts piece.blocks are_parts blocks ∙ same_conds form piece.table scanners parts are
         ∙ conds_of-in piece.blocks given) fields;
     numbered = numbered;
     stored = stored;

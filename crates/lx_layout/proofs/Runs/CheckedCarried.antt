@@ -22,7 +22,7 @@ use Rattle.lx_layout.specs.Examples.{untagged}
 use Rattle.lx_layout.specs.Halting.{Halting, is_saved}
 use Rattle.lx_layout.specs.Supplied.{HasCode, IsTarget, Serves, ServesState, by_tests, ends, reads}
 use Rattle.lx_layout.specs.Supplies.{Supply}
-use Rattle.lx_layout.specs.TestTrees.{TestTree, at_most, leaf, picked, test}
+use Rattle.lx_dispatch.specs.TestTrees.{TestTree, at_most, leaf, picked, test}
 use Rattle.lx_layout.proofs.Carrying.SuppliedCarried.{supplied_carries}
 use Rattle.lx_layout.proofs.Runs.CarriedSteps.{nothing_named}
 

@@ -24,7 +24,7 @@ use Rattle.lx_layout.specs.Examples.{bytes_piece, dotted_blocks, tagged}
 use Rattle.lx_layout.specs.Halting.{Halting}
 use Rattle.lx_layout.specs.Supplied.{HasCode, IsTarget, Serves, ServesState, by_tests, reads}
 use Rattle.lx_layout.specs.Supplies.{plain_supply}
-use Rattle.lx_layout.specs.TestTrees.{TestTree, at_most, fork, leaf, picked, test}
+use Rattle.lx_dispatch.specs.TestTrees.{TestTree, at_most, fork, leaf, picked, test}
 use Rattle.lx_layout.proofs.Carrying.SuppliedCarried.{supplied_carries}
 use Rattle.lx_layout.proofs.Runs.CarriedSteps.{first_named, nothing_named}
 

@@ -19,7 +19,7 @@ use Rattle.lx_layout.specs.Endings.{ending_code}
 use Rattle.lx_layout.specs.Examples.{untagged}
 use Rattle.lx_layout.specs.Supplied.{HasCode, IsTarget, Serves, ServesEntry, ServesState, at_end, reads}
 use Rattle.lx_layout.specs.Supplies.{Reader, Supply, entry, state}
-use Rattle.lx_layout.specs.TestTrees.{TestTree, at_most, leaf, picked, test}
+use Rattle.lx_dispatch.specs.TestTrees.{TestTree, at_most, leaf, picked, test}
 use Rattle.lx_layout.proofs.Carrying.SuppliedCarried.{supplied_carries}
 use Rattle.lx_layout.proofs.Runs.CarriedSteps.{nothing_named}
 use Rattle.lx_layout.proofs.Runs.PairsCarried.{accepted_first, bare_there, edges_there, falls_there, halting, saved, low_last, low_none, on_first, on_last, paired_formed, to_first, to_second}

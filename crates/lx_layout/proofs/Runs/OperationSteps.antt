@@ -12,7 +12,8 @@ use Rattle.lx_ccode.specs.Statements.{code_of}
 use Rattle.lx_sequence.specs.Turns.{after_op, after_ops}
 use Rattle.lx_layout.specs.Codes.{save_code, op_code, ops_code}
 use Rattle.lx_layout.specs.Layout.{StandsFrom}
-use Rattle.lx_layout.specs.TestTrees.{Question, TestTree, asks, fork, holds, inner_blocks, inner_size, leaf, picked, switch, test, tree_code}
+use Rattle.lx_dispatch.specs.TestTrees.{Question, TestTree, fork, holds, leaf, picked, switch, test}
+use Rattle.lx_layout.specs.TreeCodes.{asks, inner_blocks, inner_size, tree_code}
 use Rattle.lx_layout.proofs.BlockLayouts.CodesInBlocks.{StandsFrom-back, StandsFrom-front, code_length-append}
 use Rattle.lx_layout.proofs.BlockLayouts.Questions.{FitsTable, cases_step, question_fails, question_holds}
 use Rattle.lx_layout.proofs.Runs.PartialRuns.{LeadsIn, stays_in, step_in, then_in, widen}

@@ -10,8 +10,9 @@ use Rattle.lx_ccode.specs.Traces.{count_made, trace, traced}
 use Rattle.lx_ccode.proofs.TraceSteps.{goto_step}
 use Rattle.lx_layout.specs.Layout.{StandsFrom, class_block, numbered}
 use Rattle.lx_layout.specs.TestRuns.{ComesTo, is_test}
-use Rattle.lx_layout.specs.TestTrees.{IsTreeOf, Question, TestTree, asks, depth, fork, holds, inner_blocks, inner_size, leaf, picked, split_class, switch, switch_cases, test, tree_code}
-use Rattle.lx_layout.specs.TransitionClasses.{Split}
+use Rattle.lx_dispatch.specs.TestTrees.{IsTreeOf, Question, TestTree, depth, fork, holds, leaf, picked, split_class, switch, test}
+use Rattle.lx_layout.specs.TreeCodes.{asks, inner_blocks, inner_size, switch_cases, tree_code}
+use Rattle.lx_dispatch.specs.TransitionClasses.{Split}
 use Rattle.lx_layout.proofs.BlockLayouts.CodesInBlocks.{StandsFrom-back, StandsFrom-front}
 use Rattle.lx_layout.proofs.BlockLayouts.Questions.{any_question, cases_step, question_fails, question_holds}
 use Rattle.lx_layout.proofs.BlockLayouts.TreeCodes.{length-inner_blocks, picked-numbered}

@@ -1,5 +1,5 @@
 -- Of the code of each sort that no unit is tested in it before one is read, where it leads to blocks of which that holds.
-use Rattle.std.specs.Prelude.{◌≡◌, ◌≢◌, ℕ, zero, suc, Bool, true, false, List, [], ◌∷◌, map, Option, Some, None, refl, slice_get}
+use Rattle.std.specs.Prelude.{◌≡◌, ◌≢◌, ℕ, zero, suc, Bool, true, false, List, [], ◌∷◌, Option, Some, None, refl, slice_get}
 use Rattle.std.proofs.Common.{sym, subst, arith, true≢false}
 use Rattle.std.specs.List.{AllByRecursion}
 use Rattle.lx_auto.specs.declared.automaton.Accept.{Accept}
@@ -22,46 +22,46 @@ use Rattle.lx_layout.specs.Layout.{StandsFrom, choices_from, restore_blocks}
 use Rattle.lx_layout.specs.SuppliedLayout.{JumpsTo}
 use Rattle.lx_layout.specs.Supplies.{Reader, back_code, end_test, need_code, store_code, try_code}
 use Rattle.lx_layout.proofs.ScannerLaws.FewSteps.{Backs, Calm, CalmAt, checks, fewer, goto, if_accept, if_end, is_simple, simple, stores, tries}
+use Rattle.lx_layout.proofs.ScannerLaws.TestSorts.{all_tests}
 use Rattle.lx_layout.proofs.SuppliedLayouts.ClosedCodes.{ending_fits}
 use Rattle.lx_layout.proofs.SuppliedLayouts.CommonCodes.{AreCommon, ending_common, is_common}
-use Rattle.lx_layout.proofs.Validity.EachElement.{each-back}
 
 simple_one : (statement : Stmt) → is_common statement ≡ true → JumpsTo (λ block. ⊥) statement → is_simple statement ≡ true
 simple_one Peek common never = absurd (true≢false (sym common))
 simple_one (Need units) common never = absurd (true≢false (sym common))
 simple_one (Store state) common never = absurd (true≢false (sym common))
-simple_one (IfUnit greatest block) common never = absurd never.0
-simple_one (IfIs unit block) common never = absurd never.0
-simple_one (IfSet set block) common never = absurd never.0
+simple_one (IfUnit greatest block) common never = absurd (true≢false (sym common))
+simple_one (IfIs unit block) common never = absurd (true≢false (sym common))
+simple_one (IfSet set block) common never = absurd (true≢false (sym common))
 simple_one (IfAccept accept block) common never = absurd never.0
 simple_one (IfEnd block) common never = absurd never.0
 simple_one (Try block) common never = absurd never.0
-simple_one (Switch cases last) common never = absurd (each-back (λ block. ⊥) (map (λ case. case.block) cases) (last ∷ []) never).0
+simple_one (Switch cases last) common never = absurd (true≢false (sym common))
 simple_one (Goto block) common never = absurd never.0
 simple_one _ common never = refl
 
 module _ (piece : Piece) (stream : List ℕ) (Stored : ℕ → Type 0) (n : ℕ) where
   -- from the code on no unit is tested before one is read, in one step more than from blocks
   abbrev pub Up : List Stmt → Type 0
-  Up code = Calm piece stream Stored 0 0 (suc n) code
+  Up code = Calm all_tests piece stream Stored 0 0 (suc n) code
 
   abbrev pub At : (block : ℕ) → Type 0
-  At block = CalmAt piece stream Stored 0 0 n block
+  At block = CalmAt all_tests piece stream Stored 0 0 n block
 
   abbrev pub UpAt : (block : ℕ) → Type 0
-  UpAt block = CalmAt piece stream Stored 0 0 (suc n) block
+  UpAt block = CalmAt all_tests piece stream Stored 0 0 (suc n) block
 
   pub lower : (block : ℕ) → UpAt block → At block
-  lower block h code is = fewer piece stream Stored 0 0 n code (h code is)
+  lower block h code is = fewer all_tests piece stream Stored 0 0 n code (h code is)
 
   pub known : (block : ℕ) (code : List Stmt) → slice_get (code_of piece.blocks) block ≡ Some code → Up code → UpAt block
-  known block code at h other is = let same : code ≡ other = cc in subst (λ l. Calm piece stream Stored 0 0 (suc n) l) same h
+  known block code at h other is = let same : code ≡ other = cc in subst (λ l. Calm all_tests piece stream Stored 0 0 (suc n) l) same h
 
   up : (statement : Stmt) (rest : List Stmt) → is_simple statement ≡ true → Up rest → Up (statement ∷ rest)
-  up statement rest is h = fewer piece stream Stored 0 0 (suc n) (statement ∷ rest) (simple piece stream Stored 0 0 (suc n) statement rest is h)
+  up statement rest is h = fewer all_tests piece stream Stored 0 0 (suc n) (statement ∷ rest) (simple all_tests piece stream Stored 0 0 (suc n) statement rest is h)
 
   pub up_goto : (block : ℕ) → At block → Up (Goto block ∷ [])
-  up_goto block h = goto piece stream Stored 0 0 n block [] h
+  up_goto block h = goto all_tests piece stream Stored 0 0 n block [] h
 
   up_op : (op : Op) (rest : List Stmt) → Up rest → Up (op_code op ∷ rest)
   up_op (Here r) rest h = up (op_code (Here r)) rest refl h
@@ -128,11 +128,11 @@ module _ (piece : Piece) (stream : List ℕ) (Stored : ℕ → Type 0) (n : ℕ)
     up_choices : (leaves : Bool) (choices : List Choice) → AllByRecursion (λ (choice : Choice). At choice.block) choices → Up (fallback_code leaves choices)
     up_choices leaves [] h = up Leave [] refl up_none
     up_choices true (choice ∷ []) h =
-        if_accept piece stream Stored 0 0 n choice.saved choice.block (Leave ∷ []) h.0 (fewer piece stream Stored 0 0 n (Leave ∷ []) (up Leave [] refl up_none))
+        if_accept all_tests piece stream Stored 0 0 n choice.saved choice.block (Leave ∷ []) h.0 (fewer all_tests piece stream Stored 0 0 n (Leave ∷ []) (up Leave [] refl up_none))
     up_choices false (choice ∷ []) h = up_goto choice.block h.0
     up_choices leaves (choice ∷ next ∷ choices) h =
-        if_accept piece stream Stored 0 0 n choice.saved choice.block (fallback_code leaves (next ∷ choices)) h.0
-        (fewer piece stream Stored 0 0 n (fallback_code leaves (next ∷ choices)) (up_choices leaves (next ∷ choices) h.1))
+        if_accept all_tests piece stream Stored 0 0 n choice.saved choice.block (fallback_code leaves (next ∷ choices)) h.0
+        (fewer all_tests piece stream Stored 0 0 n (fallback_code leaves (next ∷ choices)) (up_choices leaves (next ∷ choices) h.1))
 
     pub up_fallback : (leaves : Bool) (block : ℕ) (list : List Accept) → StandsFrom (code_of piece.blocks) block (restore_blocks rules list)
         → AllByRecursion (λ (accept : Accept). At (rules accept.rule)) list → Up (fallback_code leaves (choices_from 1 block list))
@@ -144,26 +144,26 @@ module _ (piece : Piece) (stream : List ℕ) (Stored : ℕ → Type 0) (n : ℕ)
       → Up rest → Up (store_code stored reader rest)
   up_store None reader rest own h = h
   up_store (Some number) reader rest own h =
-      fewer piece stream Stored 0 0 (suc n) (Store (number reader) ∷ rest) (stores piece stream Stored 0 0 (suc n) (number reader) rest (own number refl) h)
+      fewer all_tests piece stream Stored 0 0 (suc n) (Store (number reader) ∷ rest) (stores all_tests piece stream Stored 0 0 (suc n) (number reader) rest (own number refl) h)
 
   pub up_check : (stored : Option (Reader → ℕ)) (reader : Reader) (units : ℕ) (rest : List Stmt)
-      → ((number : Reader → ℕ) → stored ≡ Some number → 0 ≢ units → Stored (number reader)) → Backs piece stream Stored 0 0 n → Up rest
+      → ((number : Reader → ℕ) → stored ≡ Some number → 0 ≢ units → Stored (number reader)) → Backs all_tests piece stream Stored 0 0 n → Up rest
       → Up (need_code stored reader units rest)
   up_check stored reader zero rest own backs h = h
   up_check stored reader (suc units) rest own backs h =
       up_store stored reader (Need (suc units) ∷ rest) (λ number is. own number is (λ e. omega (arith, e)))
-      (checks piece stream Stored 0 0 n (suc units) rest backs (fewer piece stream Stored 0 0 n rest h))
+      (checks all_tests piece stream Stored 0 0 n (suc units) rest backs (fewer all_tests piece stream Stored 0 0 n rest h))
 
   pub up_asks : (asked to : ℕ) → At asked → At to → Up (end_test asked to)
   up_asks asked to h g =
-      if_end piece stream Stored 0 0 n asked (Goto to ∷ []) h (fewer piece stream Stored 0 0 n (Goto to ∷ []) (up_goto to g))
+      if_end all_tests piece stream Stored 0 0 n asked (Goto to ∷ []) h (fewer all_tests piece stream Stored 0 0 n (Goto to ∷ []) (up_goto to g))
 
   pub up_tries : (stored : Option (Reader → ℕ)) (reader : Reader) (block end : ℕ) → ((number : Reader → ℕ) → stored ≡ Some number → Stored (number reader))
-      → Backs piece stream Stored 0 0 n → At block → At end → Up (try_code stored reader block end)
+      → Backs all_tests piece stream Stored 0 0 n → At block → At end → Up (try_code stored reader block end)
   up_tries stored reader block end own backs h g =
       up_store stored reader (Try block ∷ Goto end ∷ []) own
-      (tries piece stream Stored 0 0 n block (Goto end ∷ []) h (fewer piece stream Stored 0 0 n (Goto end ∷ []) (up_goto end g)) backs)
+      (tries all_tests piece stream Stored 0 0 n block (Goto end ∷ []) h (fewer all_tests piece stream Stored 0 0 n (Goto end ∷ []) (up_goto end g)) backs)
 
   pub up_back : (block end : ℕ) → At block → At end → Up (back_code block end)
   up_back block end h g =
-      if_end piece stream Stored 0 0 n end (Goto block ∷ []) g (fewer piece stream Stored 0 0 n (Goto block ∷ []) (up_goto block h))
+      if_end all_tests piece stream Stored 0 0 n end (Goto block ∷ []) g (fewer all_tests piece stream Stored 0 0 n (Goto block ∷ []) (up_goto block h))

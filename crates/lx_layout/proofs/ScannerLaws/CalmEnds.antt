@@ -18,7 +18,7 @@ use Rattle.lx_layout.specs.Halting.{AreHalting, Halting, any_falls, ended_accept
 use Rattle.lx_layout.specs.Layout.{StandsFrom, choices_from, end_block, end_blocks, ending_blocks, has_rule, lone_blocks, lone_place, own_block, own_blocks, restore_blocks, rule_place}
 use Rattle.lx_layout.specs.SuppliedLayout.{end_rule_block, end_rule_part, fall_block, fallback_part, first_restore, first_rule, kept, rule_block, supplied_layout}
 use Rattle.lx_layout.specs.Supplies.{Reader, Supply}
-use Rattle.lx_layout.specs.TestTrees.{TestTree}
+use Rattle.lx_dispatch.specs.TestTrees.{TestTree}
 use Rattle.lx_layout.proofs.BlockLayouts.FirstAccepts.{rule_place-below}
 use Rattle.lx_layout.proofs.BlockLayouts.LayoutLengths.{length-ending_blocks, length-restore_blocks}
 use Rattle.lx_layout.proofs.BlockLayouts.CodesInBlocks.{StandsFrom-front, StandsFrom-get}

@@ -18,14 +18,15 @@ use Rattle.lx_layout.specs.Halting.{AreHalting, Halting, at_end, ended_accepts, 
 use Rattle.lx_layout.specs.Layout.{StandsFrom, end_block, end_size, lone_place, lone_size, own_block, own_size}
 use Rattle.lx_layout.specs.SuppliedLayout.{EachReader, blocks_by, classes_begin, end_of, end_rule_block, entry_tests_size, fall_block, lone_number, own_end, place_by, place_of, reader_size, rule_block, size_in, sized, state_end, state_size, state_way, states_begin, supplied_layout, tests_size, with_blocks}
 use Rattle.lx_layout.specs.Supplies.{Reader, Supply, entry, state}
-use Rattle.lx_layout.specs.TestTrees.{EachTest, TestTree, TestsWithin, fork, leaf, switch, test}
-use Rattle.lx_layout.specs.TransitionClasses.{transition_classes}
+use Rattle.lx_dispatch.specs.TestTrees.{EachTest, TestTree, fork, leaf, switch, test}
+use Rattle.lx_dispatch.specs.TransitionClasses.{transition_classes}
 use Rattle.lx_layout.proofs.BlockLayouts.FirstAccepts.{rule_place-within}
 use Rattle.lx_layout.proofs.ScannerLaws.CalmCodes.{At, UpAt, lower}
 use Rattle.lx_layout.proofs.ScannerLaws.CalmEnds.{end_rule_calm, lone_calm, rest_calm}
 use Rattle.lx_layout.proofs.ScannerLaws.CalmReaders.{back_calm, home_calm, turn_back, turn_calm}
 use Rattle.lx_layout.proofs.ScannerLaws.CalmWays.{NoBlock, class_up, end_up, to_at, way_up}
 use Rattle.lx_layout.proofs.ScannerLaws.FewSteps.{Backs}
+use Rattle.lx_layout.proofs.ScannerLaws.TestSorts.{all_tests}
 use Rattle.lx_layout.proofs.ScannerLaws.LayoutReaders.{IsReader, StandWays, entry_ways_stand, own, reader_end, reader_here, reader_home, reader_stands, reader_to, reader_tree, reader_units, reader_ways, state_ways_stand}
 use Rattle.lx_layout.proofs.Supplied.EnteredStates.{behind_entry}
 use Rattle.lx_layout.proofs.SuppliedLayouts.EachLayout.{IsWay, each-with_blocks, some_class}
@@ -33,6 +34,7 @@ use Rattle.lx_layout.proofs.SuppliedLayouts.HeldLayouts.{entry_leads, state_lead
 use Rattle.lx_layout.proofs.SuppliedLayouts.LayoutServes.{place_is, state_stands}
 use Rattle.lx_layout.proofs.SuppliedLayouts.Places.{begin_in}
 use Rattle.lx_layout.proofs.SuppliedLayouts.ReaderWays.{end_places}
+use Rattle.lx_layout.proofs.SuppliedLayouts.LeadingTrees.{LeadsWithin}
 
 -- ---- where the blocks of states begin, one behind another
 
@@ -68,7 +70,7 @@ module _ (supply : Supply) (halting : Halting) (end_rule : Option ℕ) (trees : 
 -- ---- the layout
 
 module _ (piece : Piece) (supply : Supply) (halting : Halting) (endings : ℕ → Ending) (end_rule : Option ℕ) (greatest : ℕ) (trees : Reader → TestTree (Option ℕ))
-    (auto : Auto) (begin : ℕ) (formed : IsAuto auto) (are : EachReader TestsWithin supply.eof greatest trees auto)
+    (auto : Auto) (begin : ℕ) (formed : IsAuto auto) (are : EachReader LeadsWithin supply.eof greatest trees auto)
     (some : IsSome end_rule → IsSome supply.eof)
     (marked : AreHalting supply.eof end_rule greatest auto halting)
     (stands : StandsFrom (code_of piece.blocks) begin (supplied_layout supply halting endings end_rule trees auto begin))
@@ -313,7 +315,7 @@ module _ (piece : Piece) (supply : Supply) (halting : Halting) (endings : ℕ �
           base.states u
           (λ none. stop_at (state s) is u at)
 
-      backs : Backs piece stream IsStored 0 0 n
+      backs : Backs all_tests piece stream IsStored 0 0 n
       backs number block is at = by (is.1 block at)
         where
           by : IsBack block → IsAt block
@@ -388,11 +390,11 @@ module _ (piece : Piece) (supply : Supply) (halting : Halting) (endings : ℕ �
       leads_at (entry) is =
           each-with_blocks (λ unit. Unit {0}) (IsWay NoBlock halting 0 (end_places supply.eof + length (transition_classes (given 0).edges)))
           (At piece stream IsStored n) (ways_of (entry)) (entry_way_at is) (trees (entry))
-          (entry_leads NoBlock supply halting end_rule greatest auto (λ unit. Unit {0}) (λ s unit lt has. tt) formed (inr marked) trees are)
+          (entry_leads NoBlock supply halting end_rule greatest auto formed (inr marked) trees are)
       leads_at (state s) is =
           each-with_blocks (λ unit. Unit {0}) (IsWay NoBlock halting s (end_places supply.eof + length (transition_classes (given s).edges)))
           (At piece stream IsStored n) (ways_of (state s)) (state_way_at s is) (trees (state s))
-          (state_leads NoBlock supply halting end_rule greatest auto (λ unit. Unit {0}) (λ s unit lt has. tt) formed (inr marked) trees are s is.0)
+          (state_leads NoBlock supply halting end_rule greatest auto formed (inr marked) trees are s is.0)
 
   -- ---- a state whose units all go one way, without a check
 

@@ -11,13 +11,16 @@ use Rattle.lx_ccode.specs.declared.piece.Piece.{Piece}
 use Rattle.lx_ccode.specs.declared.piece.StateCase.{StateCase}
 use Rattle.lx_ccode.specs.declared.piece.Stmt.{Stmt}
 use Rattle.lx_ccode.specs.declared.piece.Stmt.TheVariants.{Goto, Need, Peek, State as Store}
+use Rattle.lx_layout.specs.FewTests.{first_questions}
 use Rattle.lx_layout.specs.Layout.{StandsFrom}
 use Rattle.lx_layout.specs.SuppliedLayout.{at_end_blocks, blocks_at_end, check_blocks, read_blocks, reader_blocks, refill_blocks}
 use Rattle.lx_layout.specs.Supplies.{Reader, Supply, back_code, end_test, need_code, try_code}
-use Rattle.lx_layout.specs.TestTrees.{EachTest, TestTree, depth, fork, inner_blocks, leaf, switch, test, tree_code}
-use Rattle.lx_layout.proofs.BlockLayouts.SplitTrees.{each-tests}
+use Rattle.lx_dispatch.specs.TestTrees.{EachTest, TestTree, fork, leaf, switch, test}
+use Rattle.lx_layout.specs.TreeCodes.{inner_blocks, tree_code}
+use Rattle.lx_dispatch.proofs.SplitTrees.{each-tests}
 use Rattle.lx_layout.proofs.ScannerLaws.CalmCodes.{At, UpAt, known, lower, up_asks, up_back, up_check, up_goto, up_tries}
-use Rattle.lx_layout.proofs.ScannerLaws.FewSteps.{Backs, Calm, calm_with, checks, fewer, reads_none, reads_one, stores, stores_alone, tree_calm}
+use Rattle.lx_layout.proofs.ScannerLaws.FewSteps.{Backs, Calm, CalmAt, calm_with, checks, fewer, reads_none, reads_one, stores, stores_alone, tree_calm}
+use Rattle.lx_layout.proofs.ScannerLaws.TestSorts.{Sort, all_tests, depth_of}
 use Rattle.lx_layout.proofs.Supplied.StoredStates.{IsAmong, among_states, block_of-among}
 
 -- where no state is stored at two places, the block of one that a block stores first
@@ -31,6 +34,11 @@ state_first blocks once at number rest here =
     among_states case blocks 0 at (Store number ∷ rest) here
     (λ cases. subst (λ n. IsAmong case (states_in n (Store number ∷ rest) cases)) (sym z) (inl refl)) in
     block_of-among case (states_from 0 blocks) once among
+
+-- code that reads no unit, and asks no first question
+pub record IsBare (code : List Stmt) : Type 0 where
+  pub peeks : list_any is_peek code ≡ false
+  pub asks : first_questions code ≡ []
 
 module _ (piece : Piece) (supply : Supply) (reader : Reader) (units from here : ℕ) (tree : TestTree ℕ) (to : ℕ → ℕ) (end : ℕ)
     (row : StandsFrom (code_of piece.blocks) from (reader_blocks supply.stored reader supply.eof units from tree))
@@ -70,6 +78,34 @@ module _ (piece : Piece) (supply : Supply) (reader : Reader) (units from here : 
       by None none (switch cases last) is h = reads_of units (switch cases last) is h
       by (Some unit) at given is h = reads_of 0 given is h
 
+  none_check : (back : Option (Reader → ℕ)) (count block : ℕ) → list_any is_peek (need_code back reader count (Goto block ∷ [])) ≡ false
+  none_check back zero block = refl
+  none_check None (suc count) block = refl
+  none_check (Some number) (suc count) block = refl
+
+  -- a check asks nothing of a unit
+  check_asks : (back : Option (Reader → ℕ)) (count : ℕ) (code : List Stmt) → first_questions (need_code back reader count code) ≡ first_questions code
+  check_asks back zero code = refl
+  check_asks None (suc count) code = refl
+  check_asks (Some number) (suc count) code = refl
+
+  -- the first questions in it are those of the tree, if it reads a unit
+  pub home_asks : (supply.eof ≡ None → units ≡ 0 → (block : ℕ) → tree ≡ leaf block → (code : List Stmt)
+      → slice_get (code_of piece.blocks) from ≡ Some code → IsBare code)
+      → (code : List Stmt) → slice_get (code_of piece.blocks) from ≡ Some code
+      → IsBare code ⊎ (first_questions code ≡ first_questions (tree_code (suc from) tree))
+  home_asks itself code here = by home
+    where
+      by : Home → IsBare code ⊎ (first_questions code ≡ first_questions (tree_code (suc from) tree))
+      by (plain none zeroth block is) = inl (itself none zeroth block is code here)
+      by (checked block is at) =
+          let same : need_code supply.stored reader units (Goto block ∷ []) ≡ code = cc in
+          inl (subst (λ l. IsBare l) same
+          (record { peeks = none_check supply.stored units block; asks = check_asks supply.stored units (Goto block ∷ []) }))
+      by (reading count at inner) =
+          let same : need_code supply.stored reader count (Peek ∷ tree_code (suc from) tree) ≡ code = cc in
+          inr (ap (λ l. first_questions l) (sym same) ∙ check_asks supply.stored count (Peek ∷ tree_code (suc from) tree))
+
   -- ---- where the end was read
 
   -- a refill is tried, and a state is stored before it
@@ -90,7 +126,7 @@ module _ (piece : Piece) (supply : Supply) (reader : Reader) (units from here : 
         let h = turned in
         known piece stream Stored n (suc (suc here)) (back_code from end) h.1.1.0 (up_back piece stream Stored n from end own ends)
 
-  module _ (stream : List ℕ) (Stored : ℕ → Type 0) (n : ℕ) (own : At piece stream Stored n from) (backs : Backs piece stream Stored 0 0 n) where
+  module _ (stream : List ℕ) (Stored : ℕ → Type 0) (n : ℕ) (own : At piece stream Stored n from) (backs : Backs all_tests piece stream Stored 0 0 n) where
     pub turn_calm : (unit : ℕ) → supply.eof ≡ Some unit → ((number : Reader → ℕ) → supply.tries ≡ true → supply.stored ≡ Some number → Stored (number reader))
         → At piece stream Stored n (to unit) → At piece stream Stored n end → UpAt piece stream Stored n here
     turn_calm unit some stored leads ends =
@@ -126,7 +162,7 @@ module _ (piece : Piece) (supply : Supply) (reader : Reader) (units from here : 
   -- where states are stored, none is at two places
   module _ (once : (number : Reader → ℕ) → supply.stored ≡ Some number → AreOnce (states_from 0 piece.blocks)) (stream : List ℕ) (Stored : ℕ → Type 0)
       (stored : (number : Reader → ℕ) → supply.stored ≡ Some number → state_block piece.blocks (number reader) ≡ Some from → Stored (number reader)) where
-    pub home_calm : (n : ℕ) → Backs piece stream Stored 0 0 n
+    pub home_calm : (n : ℕ) → Backs all_tests piece stream Stored 0 0 n
         → (supply.eof ≡ None → units ≡ 0 → (block : ℕ) → tree ≡ leaf block → UpAt piece stream Stored n from)
         → EachTest (λ unit. Unit {0}) (At piece stream Stored n) tree → UpAt piece stream Stored n from
     home_calm n backs itself leads = by home
@@ -145,23 +181,23 @@ module _ (piece : Piece) (supply : Supply) (reader : Reader) (units from here : 
             known piece stream Stored n from (need_code supply.stored reader count (Peek ∷ tree_code (suc from) tree)) at
             (up_check piece stream Stored n supply.stored reader count (Peek ∷ tree_code (suc from) tree)
             (λ number same some. stored number same (once_at (once number same) number same count some (Peek ∷ tree_code (suc from) tree) at)) backs
-            (reads_none piece stream Stored 0 (suc n) (tree_code (suc from) tree)))
+            (reads_none all_tests piece stream Stored 0 (suc n) (tree_code (suc from) tree)))
 
     -- ---- where a unit is read
 
-    module _ (leads : (n : ℕ) → EachTest (λ unit. Unit {0}) (At piece stream Stored n) tree) (never : supply.stored ≡ None → (state : ℕ) → Stored state → ⊥)
+    module _ (sort : Sort) (leads : (n : ℕ) → EachTest (λ unit. Unit {0}) (At piece stream Stored n) tree) (never : supply.stored ≡ None → (state : ℕ) → Stored state → ⊥)
         (inner : StandsFrom (code_of piece.blocks) (suc from) (inner_blocks (suc from) tree)) where
       -- whatever of these states is stored
       module _ (Others : ℕ → Type 0) (own : (state : ℕ) → Others state → Stored state) where
-        peek_one : (n : ℕ) → Calm piece stream Others 1 (depth tree) n (Peek ∷ tree_code (suc from) tree)
+        peek_one : (n : ℕ) → Calm sort piece stream Others 1 (depth_of sort tree) n (Peek ∷ tree_code (suc from) tree)
         peek_one n =
-            fewer piece stream Others 1 (depth tree) n (Peek ∷ tree_code (suc from) tree)
-            (reads_one piece stream Others (depth tree) n (tree_code (suc from) tree)
-            (tree_calm piece stream Others n tree (suc from) inner
-            (each-tests (λ unit. Unit {0}) (λ unit. Unit {0}) (At piece stream Stored n) (At piece stream Others n) (λ unit any. any)
-            (λ block h code at. calm_with piece stream Stored Others own 0 0 n code (h code at)) tree (leads n))))
+            fewer sort piece stream Others 1 (depth_of sort tree) n (Peek ∷ tree_code (suc from) tree)
+            (reads_one sort piece stream Others (depth_of sort tree) n (tree_code (suc from) tree)
+            (tree_calm sort piece stream Others n tree (suc from) inner
+            (each-tests (λ unit. Unit {0}) (λ unit. Unit {0}) (At piece stream Stored n) (CalmAt sort piece stream Others 0 0 n) (λ unit any. any)
+            (λ block h code at. calm_with sort piece stream Stored Others own 0 0 n code (h code at)) tree (leads n))))
 
-      still : (Others : ℕ → Type 0) (code : List Stmt) → Calm piece stream Others 1 (depth tree) 0 code
+      still : (Others : ℕ → Type 0) (code : List Stmt) → Calm sort piece stream Others 1 (depth_of sort tree) 0 code
       still Others code zero le machine answers ok few = omega arith
       still Others code (suc steps) le machine answers ok few = absurd (omega (arith, le))
 
@@ -175,61 +211,56 @@ module _ (piece : Piece) (supply : Supply) (reader : Reader) (units from here : 
         behind = Need (suc count) ∷ Peek ∷ tree_code (suc from) tree
 
         -- it comes back to the reader's own block
-        come_back_one : (n : ℕ) → Calm piece stream Own 1 (depth tree) n (Store (number reader) ∷ behind) → Backs piece stream Own 1 (depth tree) n
+        come_back_one : (n : ℕ) → Calm sort piece stream Own 1 (depth_of sort tree) n (Store (number reader) ∷ behind) → Backs sort piece stream Own 1 (depth_of sort tree) n
         come_back_one n again state block same e code there =
             let first : state_block piece.blocks state ≡ Some from = subst (λ k. state_block piece.blocks k ≡ Some from) (sym same) back in
             let home_block : block ≡ from = cc in
             let here : slice_get (code_of piece.blocks) from ≡ Some code = subst (λ b. slice_get (code_of piece.blocks) b ≡ Some code) home_block there in
             let whole : Store (number reader) ∷ Need (suc count) ∷ Peek ∷ tree_code (suc from) tree ≡ code = cc in
-            subst (λ l. Calm piece stream Own 1 (depth tree) n l) whole again
+            subst (λ l. Calm sort piece stream Own 1 (depth_of sort tree) n l) whole again
 
-        stored_one : (n : ℕ) → Calm piece stream Own 1 (depth tree) n behind × Calm piece stream Own 1 (depth tree) n (Store (number reader) ∷ behind)
+        stored_one : (n : ℕ) → Calm sort piece stream Own 1 (depth_of sort tree) n behind × Calm sort piece stream Own 1 (depth_of sort tree) n (Store (number reader) ∷ behind)
         stored_one zero = (still Own behind, still Own (Store (number reader) ∷ behind))
         stored_one (suc n) =
             let again = stored_one n in (
-              checks piece stream Own 1 (depth tree) n (suc count) (Peek ∷ tree_code (suc from) tree) (come_back_one n again.1)
+              checks sort piece stream Own 1 (depth_of sort tree) n (suc count) (Peek ∷ tree_code (suc from) tree) (come_back_one n again.1)
                   (peek_one Own (λ state same. subst Stored (sym same) own) n),
-              stores piece stream Own 1 (depth tree) n (number reader) behind refl again.0,
+              stores sort piece stream Own 1 (depth_of sort tree) n (number reader) behind refl again.0,
             )
 
-        one_stored : (n : ℕ) → Calm piece stream Stored 1 (depth tree) n (Store (number reader) ∷ Need (suc count) ∷ Peek ∷ tree_code (suc from) tree)
+        one_stored : (n : ℕ) → Calm sort piece stream Stored 1 (depth_of sort tree) n (Store (number reader) ∷ Need (suc count) ∷ Peek ∷ tree_code (suc from) tree)
         one_stored n =
-            fewer piece stream Stored 1 (depth tree) n (Store (number reader) ∷ Need (suc count) ∷ Peek ∷ tree_code (suc from) tree)
-            (stores_alone piece stream Stored 1 (depth tree) n (number reader) behind (stored_one n).0)
+            fewer sort piece stream Stored 1 (depth_of sort tree) n (Store (number reader) ∷ Need (suc count) ∷ Peek ∷ tree_code (suc from) tree)
+            (stores_alone sort piece stream Stored 1 (depth_of sort tree) n (number reader) behind (stored_one n).0)
 
       one_read : (n count : ℕ) → slice_get (code_of piece.blocks) from ≡ Some (need_code supply.stored reader count (Peek ∷ tree_code (suc from) tree))
-          → Calm piece stream Stored 1 (depth tree) n (need_code supply.stored reader count (Peek ∷ tree_code (suc from) tree))
+          → Calm sort piece stream Stored 1 (depth_of sort tree) n (need_code supply.stored reader count (Peek ∷ tree_code (suc from) tree))
       one_read n zero at = peek_one Stored (λ state h. h) n
       one_read n (suc count) at = by supply.stored refl at
         where
           by : (back : Option (Reader → ℕ)) → supply.stored ≡ back
               → slice_get (code_of piece.blocks) from ≡ Some (need_code back reader (suc count) (Peek ∷ tree_code (suc from) tree))
-              → Calm piece stream Stored 1 (depth tree) n (need_code back reader (suc count) (Peek ∷ tree_code (suc from) tree))
+              → Calm sort piece stream Stored 1 (depth_of sort tree) n (need_code back reader (suc count) (Peek ∷ tree_code (suc from) tree))
           by None same at =
-              fewer piece stream Stored 1 (depth tree) n (Need (suc count) ∷ Peek ∷ tree_code (suc from) tree)
-              (checks piece stream Stored 1 (depth tree) n (suc count) (Peek ∷ tree_code (suc from) tree) (λ state block is e. absurd (never same state is))
+              fewer sort piece stream Stored 1 (depth_of sort tree) n (Need (suc count) ∷ Peek ∷ tree_code (suc from) tree)
+              (checks sort piece stream Stored 1 (depth_of sort tree) n (suc count) (Peek ∷ tree_code (suc from) tree) (λ state block is e. absurd (never same state is))
               (peek_one Stored (λ state h. h) n))
           by (Some number) same at =
               let back = state_first piece.blocks (once number same) from (number reader) (Need (suc count) ∷ Peek ∷ tree_code (suc from) tree) at in
               one_stored number count back at (stored number same back) n
 
-    none_check : (back : Option (Reader → ℕ)) (count block : ℕ) → list_any is_peek (need_code back reader count (Goto block ∷ [])) ≡ false
-    none_check back zero block = refl
-    none_check None (suc count) block = refl
-    none_check (Some number) (suc count) block = refl
-
     -- from the reader's own block on, if it reads a unit
-    pub one_calm : (leads : (n : ℕ) → EachTest (λ unit. Unit {0}) (At piece stream Stored n) tree) → (supply.stored ≡ None → (state : ℕ) → Stored state → ⊥)
+    pub one_calm : (sort : Sort) (leads : (n : ℕ) → EachTest (λ unit. Unit {0}) (At piece stream Stored n) tree) → (supply.stored ≡ None → (state : ℕ) → Stored state → ⊥)
         → (supply.eof ≡ None → units ≡ 0 → (block : ℕ) → tree ≡ leaf block → (code : List Stmt) → Stands from code → list_any is_peek code ≡ false)
         → (n : ℕ) (code : List Stmt) → slice_get (code_of piece.blocks) from ≡ Some code
-        → (list_any is_peek code ≡ false) ⊎ Calm piece stream Stored 1 (depth tree) n code
-    one_calm leads never itself n code here = by home
+        → (list_any is_peek code ≡ false) ⊎ Calm sort piece stream Stored 1 (depth_of sort tree) n code
+    one_calm sort leads never itself n code here = by home
       where
-        by : Home → (list_any is_peek code ≡ false) ⊎ Calm piece stream Stored 1 (depth tree) n code
+        by : Home → (list_any is_peek code ≡ false) ⊎ Calm sort piece stream Stored 1 (depth_of sort tree) n code
         by (plain none zeroth block is) = inl (itself none zeroth block is code here)
         by (checked block is at) =
             let same : need_code supply.stored reader units (Goto block ∷ []) ≡ code = cc in
             inl (ap (λ l. list_any is_peek l) (sym same) ∙ none_check supply.stored units block)
         by (reading count at inner) =
             let same : need_code supply.stored reader count (Peek ∷ tree_code (suc from) tree) ≡ code = cc in
-            inr (subst (λ l. Calm piece stream Stored 1 (depth tree) n l) same (one_read leads never inner n count at))
+            inr (subst (λ l. Calm sort piece stream Stored 1 (depth_of sort tree) n l) same (one_read sort leads never inner n count at))

@@ -18,9 +18,9 @@ use Rattle.lx_layout.specs.Halting.{AreHalting, Halting, saved_accepts}
 use Rattle.lx_layout.specs.Layout.{StandsFrom, saved_number}
 use Rattle.lx_layout.specs.SuppliedLayout.{class_blocks, classes_begin, fall_block, own_end, place_of, rule_block, state_end, state_to, state_way, supplied_layout}
 use Rattle.lx_layout.specs.Supplies.{Reader, Supply}
-use Rattle.lx_layout.specs.TestTrees.{TestTree}
-use Rattle.lx_layout.specs.TransitionClasses.{class_place, edge_class, has_class, transition_classes}
-use Rattle.lx_layout.proofs.BlockLayouts.ClassLists.{class_found, has_class-on}
+use Rattle.lx_dispatch.specs.TestTrees.{TestTree}
+use Rattle.lx_dispatch.specs.TransitionClasses.{class_place, edge_class, has_class, transition_classes}
+use Rattle.lx_dispatch.proofs.ClassLists.{class_found, has_class-on}
 use Rattle.lx_layout.proofs.BlockLayouts.CodesInBlocks.{StandsFrom-get}
 use Rattle.lx_layout.proofs.ScannerLaws.CalmCodes.{At, UpAt, known, lower, up_edge}
 use Rattle.lx_layout.proofs.ScannerLaws.CalmEnds.{end_calm}

@@ -22,8 +22,9 @@ use Rattle.lx_layout.specs.Halting.{AreHalting, Halting, halted_accept, is_enter
 use Rattle.lx_layout.specs.Layout.{StandsFrom, end_blocks, saved_number}
 use Rattle.lx_layout.specs.SuppliedLayout.{EachReader, blocks_by, class_blocks, entry_of, fall_block, kept, place_of, reader_blocks, rule_block, state_way, states_begin, supplied_layout, turn_of, with_blocks}
 use Rattle.lx_layout.specs.Supplies.{Reader, Supply, need_code, state}
-use Rattle.lx_layout.specs.TestTrees.{TestTree, TestsWithin, fork, inner_size, leaf, switch, test, tree_code}
-use Rattle.lx_layout.specs.TransitionClasses.{transition_classes}
+use Rattle.lx_dispatch.specs.TestTrees.{TestTree, fork, leaf, switch, test}
+use Rattle.lx_layout.specs.TreeCodes.{inner_size, tree_code}
+use Rattle.lx_dispatch.specs.TransitionClasses.{transition_classes}
 use Rattle.lx_layout.proofs.BlockLayouts.Questions.{any_question}
 use Rattle.lx_layout.proofs.Carrying.RunStates.{edge_within}
 use Rattle.lx_layout.proofs.ScannerLaws.CheckedCodes.{ChecksAtHome, ChecksNone, IsCheckFor, checked_sorts, needed-check, none_needed, others_check}
@@ -36,6 +37,7 @@ use Rattle.lx_layout.proofs.SuppliedLayouts.LayoutServes.{state_stands}
 use Rattle.lx_layout.proofs.SuppliedLayouts.OwnBlocks.{all-contained, each_from-get, none-contained, scanner_code}
 use Rattle.lx_layout.proofs.SuppliedLayouts.Places.{begin_in}
 use Rattle.lx_layout.proofs.SuppliedLayouts.WholeLayout.{begin_in-high}
+use Rattle.lx_layout.proofs.SuppliedLayouts.LeadingTrees.{LeadsWithin}
 
 -- ---- the block where a state's code begins
 
@@ -99,7 +101,7 @@ module _ (halting : Halting) (auto : Auto) (saved_list : List Accept) (place : �
 
 module _ (supply : Supply) (halting : Halting) (endings : ℕ → Ending) (end_rule : Option ℕ) (greatest : ℕ) (trees : Reader → TestTree (Option ℕ)) (auto : Auto)
     (begin : ℕ) (piece : Piece) (stands : StandsFrom (code_of piece.blocks) begin (supplied_layout supply halting endings end_rule trees auto begin))
-    (formed : IsAuto auto) (are : EachReader TestsWithin supply.eof greatest trees auto) (some : IsSome end_rule → IsSome supply.eof)
+    (formed : IsAuto auto) (are : EachReader LeadsWithin supply.eof greatest trees auto) (some : IsSome end_rule → IsSome supply.eof)
     (eof : supply.eof ≡ None) (marked : AreHalting supply.eof end_rule greatest auto halting)
     (stored : (supply.stored ≡ None) ⊎ AreOnce (states_from 0 piece.blocks)) where
   abbrev place : ℕ → ℕ

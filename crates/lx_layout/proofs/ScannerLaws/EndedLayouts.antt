@@ -18,7 +18,7 @@ use Rattle.lx_layout.specs.Halting.{AreHalting, Halting, ended_accepts, saved_ac
 use Rattle.lx_layout.specs.Layout.{StandsFrom, ending_blocks, restore_blocks}
 use Rattle.lx_layout.specs.SuppliedLayout.{EachReader, end_rule_part, entry_of, entry_part, fall_block, fallback_part, first_restore, first_rule, place_of, rule_block, states_begin, states_part, supplied_layout}
 use Rattle.lx_layout.specs.Supplies.{Reader, Supply}
-use Rattle.lx_layout.specs.TestTrees.{TestTree, TestsWithin}
+use Rattle.lx_dispatch.specs.TestTrees.{TestTree}
 use Rattle.lx_layout.proofs.BlockLayouts.LayoutLengths.{length-restore_blocks}
 use Rattle.lx_layout.proofs.ScannerLaws.EndCodes.{EndsNoOther, ending_by}
 use Rattle.lx_layout.proofs.ScannerLaws.InnerCodes.{acting, acts, both_inner, inner_acts, inner_ends, inner_gives, inner_jumps, is_inner, jumping, jumps_on, sorts_ok}
@@ -26,9 +26,10 @@ use Rattle.lx_layout.proofs.ScannerLaws.RulePlaces.{end_at, slice_get-front, sli
 use Rattle.lx_layout.proofs.SuppliedLayouts.HeldLayouts.{each_from-all, layout_any}
 use Rattle.lx_layout.proofs.SuppliedLayouts.Lengths.{length-entry_part, length-fallback_part, length-states_blocks}
 use Rattle.lx_layout.proofs.SuppliedLayouts.OwnBlocks.{all-contained, all-get, scanner_code}
+use Rattle.lx_layout.proofs.SuppliedLayouts.LeadingTrees.{LeadsWithin}
 
 module _ (supply : Supply) (halting : Halting) (end_rule : Option ℕ) (greatest : ℕ) (trees : Reader → TestTree (Option ℕ)) (auto : Auto) (begin : ℕ)
-    (formed : IsAuto auto) (are : EachReader TestsWithin supply.eof greatest trees auto) where
+    (formed : IsAuto auto) (are : EachReader LeadsWithin supply.eof greatest trees auto) where
   abbrev rules : ℕ → ℕ
   rules = rule_block supply halting end_rule trees auto begin
 

@@ -12,10 +12,13 @@ use Rattle.lx_ccode.specs.declared.piece.Stmt.{Stmt}
 use Rattle.lx_ccode.specs.declared.piece.Stmt.TheVariants.{Peek, Skip, Backup, Restore, Accept, Set, Unset, Copy, MSet, MUnset, MCopy, IfUnit, IfIs, IfSet, IfAccept, IfEnd, State, Need, Try, Cond, Tag, Count, End, Back, Switch, Goto, Leave, Code, Jump}
 use Rattle.lx_layout.specs.Layout.{StandsFrom}
 use Rattle.lx_layout.specs.TestRuns.{is_test}
-use Rattle.lx_layout.specs.TestTrees.{EachTest, Question, TestTree, asks, case_way, depth, fork, holds, inner_blocks, inner_size, leaf, switch, switch_cases, test, tree_code}
+use Rattle.lx_dispatch.specs.TestTrees.{EachTest, Question, TestTree, case_way, fork, holds, leaf, switch, test}
+use Rattle.lx_layout.specs.TreeCodes.{asks, inner_blocks, inner_size, switch_cases, tree_code}
 use Rattle.lx_layout.proofs.BlockLayouts.CodesInBlocks.{StandsFrom-back, StandsFrom-front}
-use Rattle.lx_layout.proofs.BlockLayouts.Questions.{any_question, asks_step, case_block-ways, case_way-each, is_peek-asks}
+use Rattle.lx_layout.proofs.BlockLayouts.Questions.{asks_step, case_block-ways, is_peek-asks}
+use Rattle.lx_dispatch.proofs.Cases.{case_way-each}
 use Rattle.lx_layout.proofs.BlockLayouts.TreeCodes.{length-inner_blocks}
+use Rattle.lx_layout.proofs.ScannerLaws.TestSorts.{Sort, all_tests, asked_of, counted-asks, depth_of, fewer_made, first_tests, is_of, is_of-none, other_tests, switched_of}
 
 -- the statement neither reads nor tests a unit, jumps, stores a state or asks for a refill
 abbrev pub is_simple : Stmt → Bool
@@ -64,12 +67,18 @@ module _ (P : Next → Type 0) (blocks : List CodeBlock) (units : ℕ) (rest : L
 
 -- ---- what is counted
 
+switch_sort : (sort : Sort) (cases : List (List ℕ × ℕ)) (last : ℕ)
+    → ◌≡◌ {A = ℕ} (if is_of sort (Switch (switch_cases cases) last) then 1 else 0) (switched_of sort)
+switch_sort all_tests cases last = refl
+switch_sort first_tests cases last = refl
+switch_sort other_tests cases last = refl
+
 counted : (t : Bool) → t ≡ false → (if t then 1 else 0) + 0 ≡ 0
 counted true e = absurd (true≢false e)
 counted false e = omega arith
 
 -- what the machine has stored is one of some states
-module _ (piece : Piece) (stream : List ℕ) (Stored : ℕ → Type 0) where
+module _ (sort : Sort) (piece : Piece) (stream : List ℕ) (Stored : ℕ → Type 0) where
   abbrev pub IsOk : Machine → Type 0
   IsOk machine = (state : ℕ) → machine.state ≡ Some state → Stored state
 
@@ -77,7 +86,7 @@ module _ (piece : Piece) (stream : List ℕ) (Stored : ℕ → Type 0) where
   abbrev pub After : (reads most steps : ℕ) → Next → Type 0
   After reads most steps (goes_on code machine answers) =
       count_made is_peek (trace piece stream steps code machine answers).made ≤ reads
-      → count_made is_test (trace piece stream steps code machine answers).made ≤ most
+      → count_made (is_of sort) (trace piece stream steps code machine answers).made ≤ most
   After reads most steps (ends outcome machine) = Unit {0}
 
   -- so from some code on, in any number of steps up to a greatest one
@@ -104,13 +113,13 @@ module _ (piece : Piece) (stream : List ℕ) (Stored : ℕ → Type 0) where
   module _ (reads most n : ℕ) (statement : Stmt) (rest : List Stmt) (none : is_test statement ≡ false) where
     behind : (steps : ℕ) (next : Next) → After reads most steps next
         → count_made is_peek (traced piece stream statement (trace piece stream steps) next).made ≤ reads
-        → count_made is_test (traced piece stream statement (trace piece stream steps) next).made ≤ most
+        → count_made (is_of sort) (traced piece stream statement (trace piece stream steps) next).made ≤ most
     behind steps (goes_on code machine answers) h le =
-        let no = counted (is_test statement) none in
+        let no = counted (is_of sort statement) (is_of-none sort statement none) in
         let few = h (omega (arith, le)) in
         omega (arith, no, few)
     behind steps (ends outcome machine) h le =
-        let no = counted (is_test statement) none in omega (arith, no)
+        let no = counted (is_of sort statement) (is_of-none sort statement none) in omega (arith, no)
 
     made : ((steps : ℕ) → steps ≤ n → (machine : Machine) (answers : List Answer) → IsOk machine
         → After reads most steps (step piece stream statement rest machine answers)) → Calm reads most (suc n) (statement ∷ rest)
@@ -254,7 +263,7 @@ module _ (piece : Piece) (stream : List ℕ) (Stored : ℕ → Type 0) where
   reads_none most n rest (suc steps) le machine answers ok few = by (step piece stream Peek rest machine answers) few
     where
       by : (next : Next) → count_made is_peek (traced piece stream Peek (trace piece stream steps) next).made ≤ 0
-          → count_made is_test (traced piece stream Peek (trace piece stream steps) next).made ≤ most
+          → count_made (is_of sort) (traced piece stream Peek (trace piece stream steps) next).made ≤ most
       by (goes_on code machine answers) few = absurd (omega (arith, few))
       by (ends outcome machine) few = absurd (omega (arith, few))
 
@@ -265,36 +274,34 @@ module _ (piece : Piece) (stream : List ℕ) (Stored : ℕ → Type 0) where
       by (unit_at piece.eof stream machine.cursor machine.limit) few
     where
       by : (o : Option ℕ) → count_made is_peek (traced piece stream Peek (trace piece stream steps) (peek o rest machine answers)).made ≤ 1
-          → count_made is_test (traced piece stream Peek (trace piece stream steps) (peek o rest machine answers)).made ≤ most
-      by None few = omega arith
+          → count_made (is_of sort) (traced piece stream Peek (trace piece stream steps) (peek o rest machine answers)).made ≤ most
+      by None few = let no = counted (is_of sort Peek) (is_of-none sort Peek refl) in omega (arith, no)
       by (Some unit) few =
-          let least = h steps (omega (arith, le)) (record machine { unit = Some unit }) answers ok (omega (arith, few)) in omega (arith, least)
+          let no = counted (is_of sort Peek) (is_of-none sort Peek refl) in
+          let least = h steps (omega (arith, le)) (record machine { unit = Some unit }) answers ok (omega (arith, few)) in
+          omega (arith, least, no)
 
   -- ---- the tests
 
-  -- a question is one test, and reads nothing
-  counted_test : (question : Question) (block : ℕ) → ◌≡◌ {A = ℕ} (if is_test (asks question block) then 1 else 0) 1
-  counted_test question block =
-      any_question (λ statement. ◌≡◌ {A = ℕ} (if is_test statement then 1 else 0) 1) block (λ greatest. refl) (λ unit. refl) (λ set. refl) question
-
+  -- a question reads nothing
   counted_read : (question : Question) (block : ℕ) → ◌≡◌ {A = ℕ} (if is_peek (asks question block) then 1 else 0) 0
   counted_read question block = ap {B = ℕ} (λ t. if t then 1 else 0) (is_peek-asks question block)
 
   tests : (most n : ℕ) (question : Question) (block : ℕ) (rest : List Stmt) → CalmAt 0 most n block → Calm 0 most n rest
-      → Calm 0 (suc most) (suc n) (asks question block ∷ rest)
+      → Calm 0 (asked_of sort question + most) (suc n) (asks question block ∷ rest)
   tests most n question block rest h g zero le machine answers ok few = omega arith
   tests most n question block rest h g (suc steps) le machine answers ok few =
       by (step piece stream (asks question block) rest machine answers) after_step few
     where
       by : (next : Next) → After 0 most steps next
           → count_made is_peek (traced piece stream (asks question block) (trace piece stream steps) next).made ≤ 0
-          → count_made is_test (traced piece stream (asks question block) (trace piece stream steps) next).made ≤ suc most
+          → count_made (is_of sort) (traced piece stream (asks question block) (trace piece stream steps) next).made ≤ asked_of sort question + most
       by (goes_on code next others) after few =
-          let one = counted_test question block in
+          let one = counted-asks sort question block in
           let none = counted_read question block in
           let least = after (omega (arith, few, none)) in
           omega (arith, least, one)
-      by (ends outcome next) after few = let one = counted_test question block in omega (arith, one)
+      by (ends outcome next) after few = let one = counted-asks sort question block in omega (arith, one)
 
       stepped : (o : Option ℕ)
           → After 0 most steps (if_unit o (holds (is_among piece.table) question) (code_at piece.blocks (Some block)) rest machine answers)
@@ -308,16 +315,19 @@ module _ (piece : Piece) (stream : List ℕ) (Stored : ℕ → Type 0) where
 
   -- a jump by the unit
   switches : (n : ℕ) (cases : List (List ℕ × ℕ)) (last : ℕ) → AllByRecursion (λ case. CalmAt 0 0 n case.1) cases → CalmAt 0 0 n last
-      → Calm 0 1 (suc n) (Switch (switch_cases cases) last ∷ [])
+      → Calm 0 (switched_of sort) (suc n) (Switch (switch_cases cases) last ∷ [])
   switches n cases last h own zero le machine answers ok few = omega arith
   switches n cases last h own (suc steps) le machine answers ok few =
       by (step piece stream (Switch (switch_cases cases) last) [] machine answers) (stepped machine.unit) few
     where
       by : (next : Next) → After 0 0 steps next
           → count_made is_peek (traced piece stream (Switch (switch_cases cases) last) (trace piece stream steps) next).made ≤ 0
-          → count_made is_test (traced piece stream (Switch (switch_cases cases) last) (trace piece stream steps) next).made ≤ 1
-      by (goes_on code next others) after few = let least = after (omega (arith, few)) in omega (arith, least)
-      by (ends outcome next) after few = omega arith
+          → count_made (is_of sort) (traced piece stream (Switch (switch_cases cases) last) (trace piece stream steps) next).made ≤ switched_of sort
+      by (goes_on code next others) after few =
+          let one = switch_sort sort cases last in
+          let least = after (omega (arith, few)) in
+          omega (arith, least, one)
+      by (ends outcome next) after few = let one = switch_sort sort cases last in omega (arith, one)
 
       led : (unit block : ℕ) → CalmAt 0 0 n block → After 0 0 steps (jump (code_at piece.blocks (Some block)) machine answers)
       led unit block calm = there (code_at piece.blocks (Some block)) refl
@@ -335,15 +345,15 @@ module _ (piece : Piece) (stream : List ℕ) (Stored : ℕ → Type 0) where
 
   -- by a tree that leads to calm blocks
   pub tree_calm : (n : ℕ) (tree : TestTree ℕ) (next : ℕ) → StandsFrom (code_of piece.blocks) next (inner_blocks next tree)
-      → EachTest (λ unit. Unit {0}) (CalmAt 0 0 n) tree → Calm 0 (depth tree) n (tree_code next tree)
+      → EachTest (λ unit. Unit {0}) (CalmAt 0 0 n) tree → Calm 0 (depth_of sort tree) n (tree_code next tree)
   tree_calm n (leaf block) next stands leads = fewer 0 0 n (Goto block ∷ []) (goto 0 0 n block [] leads)
   tree_calm n (switch cases last) next stands leads =
-      fewer 0 1 n (Switch (switch_cases cases) last ∷ []) (switches n cases last leads.1 leads.2)
+      fewer 0 (switched_of sort) n (Switch (switch_cases cases) last ∷ []) (switches n cases last leads.1 leads.2)
   tree_calm n (test question block high) next stands leads =
       let again = tree_calm n high next stands leads.2 in
-      fewer 0 (suc (depth high)) n (asks question block ∷ tree_code next high)
-      (tests (depth high) n question block (tree_code next high)
-      (λ code is. more_tests 0 0 (depth high) n code (omega arith) (leads.1 code is)) again)
+      fewer 0 (asked_of sort question + depth_of sort high) n (asks question block ∷ tree_code next high)
+      (tests (depth_of sort high) n question block (tree_code next high)
+      (λ code is. more_tests 0 0 (depth_of sort high) n code (omega arith) (leads.1 code is)) again)
   tree_calm n (fork question low high) next stands leads =
       let below : List (List Stmt) = inner_blocks (suc next) low in
       let above : List (List Stmt) = inner_blocks (suc next + inner_size low) high in
@@ -351,23 +361,26 @@ module _ (piece : Piece) (stream : List ℕ) (Stored : ℕ → Type 0) where
       let low_calm = tree_calm n low (suc next) (StandsFrom-front (code_of piece.blocks) (suc next) below above stands.1) leads.1 in
       let high_calm = tree_calm n high (suc next + inner_size low)
       (subst (λ n. StandsFrom (code_of piece.blocks) n above) e (StandsFrom-back (code_of piece.blocks) (suc next) below above stands.1)) leads.2 in
-      fewer 0 (suc (max (depth low) (depth high))) n (asks question next ∷ tree_code (suc next + inner_size low) high)
-      (tests (max (depth low) (depth high)) n question next (tree_code (suc next + inner_size low) high)
+      fewer 0 (asked_of sort question + max (depth_of sort low) (depth_of sort high)) n (asks question next ∷ tree_code (suc next + inner_size low) high)
+      (tests (max (depth_of sort low) (depth_of sort high)) n question next (tree_code (suc next + inner_size low) high)
       (λ code is.
       let own = stands.0 in
       let same : tree_code (suc next) low ≡ code = cc in
-      subst (λ l. Calm 0 (max (depth low) (depth high)) n l) same
-      (more_tests 0 (depth low) (max (depth low) (depth high)) n (tree_code (suc next) low) (omega arith) low_calm))
-      (more_tests 0 (depth high) (max (depth low) (depth high)) n (tree_code (suc next + inner_size low) high) (omega arith) high_calm))
+      subst (λ l. Calm 0 (max (depth_of sort low) (depth_of sort high)) n l) same
+      (more_tests 0 (depth_of sort low) (max (depth_of sort low) (depth_of sort high)) n (tree_code (suc next) low) (omega arith) low_calm))
+      (more_tests 0 (depth_of sort high) (max (depth_of sort low) (depth_of sort high)) n (tree_code (suc next + inner_size low) high) (omega arith) high_calm))
 
--- with fewer states stored
-pub calm_with : (piece : Piece) (stream : List ℕ) (Stored Others : ℕ → Type 0) → ((state : ℕ) → Others state → Stored state)
-    → (reads most n : ℕ) (code : List Stmt) → Calm piece stream Stored reads most n code → Calm piece stream Others reads most n code
-calm_with piece stream Stored Others f reads most n code h steps le machine answers ok = h steps le machine answers (λ state is. f state (ok state is))
+-- where no more tests come, and with fewer states stored, no more of one sort come
+pub calm_with : (sort : Sort) (piece : Piece) (stream : List ℕ) (Stored Others : ℕ → Type 0) → ((state : ℕ) → Others state → Stored state)
+    → (reads most n : ℕ) (code : List Stmt) → Calm all_tests piece stream Stored reads most n code → Calm sort piece stream Others reads most n code
+calm_with sort piece stream Stored Others f reads most n code h steps le machine answers ok few =
+    let least = h steps le machine answers (λ state is. f state (ok state is)) few in
+    let fewer = fewer_made sort (trace piece stream steps code machine answers).made in
+    omega (arith, least, fewer)
 
 -- behind a statement that stores a state no other one is stored
-pub stores_alone : (piece : Piece) (stream : List ℕ) (Stored : ℕ → Type 0) (reads most n state : ℕ) (rest : List Stmt)
-    → Calm piece stream (λ other. other ≡ state) reads most n rest → Calm piece stream Stored reads most (suc n) (State state ∷ rest)
-stores_alone piece stream Stored reads most n state rest h =
-    made piece stream Stored reads most n (State state) rest refl
+pub stores_alone : (sort : Sort) (piece : Piece) (stream : List ℕ) (Stored : ℕ → Type 0) (reads most n state : ℕ) (rest : List Stmt)
+    → Calm sort piece stream (λ other. other ≡ state) reads most n rest → Calm sort piece stream Stored reads most (suc n) (State state ∷ rest)
+stores_alone sort piece stream Stored reads most n state rest h =
+    made sort piece stream Stored reads most n (State state) rest refl
     (λ steps le machine answers ok. h steps le (record machine { state = Some state }) answers (λ other is. let same : other ≡ state = cc in same))

@@ -19,7 +19,7 @@ use Rattle.lx_layout.specs.Halting.{Halting, saves_on}
 use Rattle.lx_layout.specs.Supplies.{Reader, Supply, need_code, store_code}
 use Rattle.lx_layout.proofs.BlockLayouts.Questions.{any_question}
 use Rattle.lx_layout.proofs.SuppliedLayouts.EachBlock.{HoldsOfSorts}
-use Rattle.lx_layout.specs.TestTrees.{switch_cases}
+use Rattle.lx_layout.specs.TreeCodes.{switch_cases}
 
 -- no rule ends by the statement, or gives a value
 abbrev pub is_inner : Stmt → Bool

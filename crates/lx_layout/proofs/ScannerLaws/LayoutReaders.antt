@@ -12,7 +12,7 @@ use Rattle.lx_layout.specs.Halting.{Halting, is_entered, saved_accepts}
 use Rattle.lx_layout.specs.Layout.{StandsFrom}
 use Rattle.lx_layout.specs.SuppliedLayout.{at_end_blocks, blocks_by, end_rule_block, entry_part, entry_tests_size, entry_way, fall_block, kept, number_in, place_of, reader_blocks, rule_block, state_end, state_to, state_way, states_begin, states_part, supplied_layout, turn_begin, with_blocks}
 use Rattle.lx_layout.specs.Supplies.{Reader, Supply, entry, state}
-use Rattle.lx_layout.specs.TestTrees.{TestTree}
+use Rattle.lx_dispatch.specs.TestTrees.{TestTree}
 use Rattle.lx_layout.proofs.BlockLayouts.CodesInBlocks.{StandsFrom-back, StandsFrom-front}
 use Rattle.lx_layout.proofs.SuppliedLayouts.LayoutServes.{rest, state_stands}
 use Rattle.lx_layout.proofs.SuppliedLayouts.Places.{begin_in}

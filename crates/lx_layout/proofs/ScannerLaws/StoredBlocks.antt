@@ -19,7 +19,7 @@ use Rattle.lx_layout.proofs.SuppliedLayouts.CommonCodes.{none-accept, none-edge,
 use Rattle.lx_layout.proofs.SuppliedLayouts.EachBlock.{HoldsOfSorts}
 use Rattle.lx_layout.proofs.SuppliedLayouts.ReturnBlocks.{none_head}
 use Rattle.lx_layout.proofs.SuppliedLayouts.StoredNothing.{others_store}
-use Rattle.lx_layout.specs.TestTrees.{switch_cases}
+use Rattle.lx_layout.specs.TreeCodes.{switch_cases}
 
 module _ (supply : Supply) (R : Reader → ℕ → Type 0) where
   -- a reader's own block

@@ -24,7 +24,7 @@ use Rattle.lx_layout.specs.Layout.{StandsFrom, choices_from, ending_blocks, lone
 use Rattle.lx_layout.specs.Parts.{checked}
 use Rattle.lx_layout.specs.SuppliedLayout.{EachReader, JumpsTo, blocks_by, end_rule_part, entry_by, entry_of, fall_block, fallback_part, first_restore, kept, lone_number, place_by, place_of, rule_block, states_begin, supplied_layout}
 use Rattle.lx_layout.specs.Supplies.{Reader, Supply}
-use Rattle.lx_layout.specs.TestTrees.{TestTree, TestsWithin}
+use Rattle.lx_dispatch.specs.TestTrees.{TestTree}
 use Rattle.lx_layout.proofs.BlockLayouts.LayoutLengths.{length-ending_blocks, length-restore_blocks}
 use Rattle.lx_layout.proofs.ScannerLaws.CheckedCodes.{others_check}
 use Rattle.lx_layout.proofs.ScannerLaws.CheckedLayouts.{layout_walks}
@@ -36,6 +36,7 @@ use Rattle.lx_layout.proofs.SuppliedLayouts.OwnBlocks.{all-contained, none-conta
 use Rattle.lx_layout.proofs.SuppliedLayouts.Places.{begin_in}
 use Rattle.lx_layout.proofs.SuppliedLayouts.StoredNothing.{others_store}
 use Rattle.lx_layout.proofs.Validity.EachElement.{each-append}
+use Rattle.lx_layout.proofs.SuppliedLayouts.LeadingTrees.{LeadsWithin}
 
 -- of each code of a row
 row_has : (P : List Stmt → Type 0) (blocks : List (List Stmt)) (from : ℕ) (row : List (List Stmt)) → StandsFrom blocks from row → AllByRecursion P row
@@ -55,7 +56,7 @@ row_has P blocks from (first ∷ row) h each block code low lt is =
 
 module _ (piece : Piece) (supply : Supply) (halting : Halting) (endings : ℕ → Ending) (end_rule : Option ℕ) (greatest : ℕ) (trees : Reader → TestTree (Option ℕ))
     (auto : Auto) (begin : ℕ) (stands : StandsFrom (code_of piece.blocks) begin (supplied_layout supply halting endings end_rule trees auto begin))
-    (formed : IsAuto auto) (are : EachReader TestsWithin supply.eof greatest trees auto)
+    (formed : IsAuto auto) (are : EachReader LeadsWithin supply.eof greatest trees auto)
     (marked : AreHalting supply.eof end_rule greatest auto halting) (stored : (supply.stored ≡ None) ⊎ AreOnce (states_from 0 piece.blocks)) where
   abbrev blocks : List (List Stmt)
   blocks = code_of piece.blocks

@@ -16,7 +16,8 @@ use Rattle.lx_layout.specs.Fallback.{edge_code}
 use Rattle.lx_layout.specs.Halting.{Halting, saves_on}
 use Rattle.lx_layout.specs.Layout.{StandsFrom}
 use Rattle.lx_layout.specs.Supplies.{Reader, need_code}
-use Rattle.lx_layout.specs.TestTrees.{Question, TestTree, asks, fork, inner_blocks, inner_size, leaf, switch, test, tree_code}
+use Rattle.lx_dispatch.specs.TestTrees.{Question, TestTree, fork, leaf, switch, test}
+use Rattle.lx_layout.specs.TreeCodes.{asks, inner_blocks, inner_size, tree_code}
 use Rattle.lx_layout.proofs.BlockLayouts.CodesInBlocks.{others}
 use Rattle.lx_layout.proofs.BlockLayouts.Questions.{any_question}
 use Rattle.lx_layout.proofs.Validity.EachElement.{each-append}

@@ -11,7 +11,8 @@ use Rattle.lx_ccode.specs.Statements.{code_of}
 use Rattle.lx_layout.specs.Layout.{StandsFrom}
 use Rattle.lx_layout.specs.RightInMode.{AreStoredBy}
 use Rattle.lx_layout.specs.Supplies.{Reader, Supply, need_code}
-use Rattle.lx_layout.specs.TestTrees.{TestTree, inner_blocks, picked, tree_code}
+use Rattle.lx_dispatch.specs.TestTrees.{TestTree, picked}
+use Rattle.lx_layout.specs.TreeCodes.{inner_blocks, tree_code}
 use Rattle.lx_layout.proofs.BlockLayouts.Questions.{FitsTable}
 use Rattle.lx_layout.proofs.BlockLayouts.TreeCodes.{tree_length}
 use Rattle.lx_layout.proofs.Runs.PartialRuns.{LeadsIn, stays_in, step_in, then_in}

@@ -13,7 +13,8 @@ use Rattle.lx_ccode.specs.Statements.{code_of, statement_count}
 use Rattle.lx_layout.specs.Layout.{StandsFrom}
 use Rattle.lx_layout.specs.RightInMode.{AreStoredBy}
 use Rattle.lx_layout.specs.Supplies.{Reader, Supply, back_code, end_test, try_code}
-use Rattle.lx_layout.specs.TestTrees.{TestTree, inner_blocks, picked, tree_code}
+use Rattle.lx_dispatch.specs.TestTrees.{TestTree, picked}
+use Rattle.lx_layout.specs.TreeCodes.{inner_blocks, tree_code}
 use Rattle.lx_layout.proofs.BlockLayouts.Questions.{FitsTable}
 use Rattle.lx_layout.proofs.BlockLayouts.TreeCodes.{tree_length}
 use Rattle.lx_layout.proofs.Runs.PartialRuns.{LeadsIn, end_in, last_in, step_in, then_in, widen}

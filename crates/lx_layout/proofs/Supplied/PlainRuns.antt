@@ -24,7 +24,8 @@ use Rattle.lx_layout.specs.Starts.{machine_with, run_with}
 use Rattle.lx_layout.specs.Stops.{Stops, bank_from, last_standing, or_here, or_later, told_found}
 use Rattle.lx_layout.specs.Supplied.{Serves}
 use Rattle.lx_layout.specs.Supplies.{Supply}
-use Rattle.lx_layout.specs.TestTrees.{inner_blocks, picked, tree_code}
+use Rattle.lx_dispatch.specs.TestTrees.{picked}
+use Rattle.lx_layout.specs.TreeCodes.{inner_blocks, tree_code}
 use Rattle.lx_layout.proofs.BlockLayouts.CodesInBlocks.{length-block, length-with_row}
 use Rattle.lx_layout.proofs.BlockLayouts.Questions.{FitsTable}
 use Rattle.lx_layout.proofs.BlockLayouts.TreeCodes.{inner_blocks-read, tree_length}

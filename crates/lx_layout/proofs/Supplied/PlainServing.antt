@@ -12,7 +12,8 @@ use Rattle.lx_layout.specs.Layout.{StandsFrom}
 use Rattle.lx_layout.specs.Supplied as supplied
 use Rattle.lx_layout.specs.Supplied.{HasCode, IsEnd, IsTarget, ServesState}
 use Rattle.lx_layout.specs.Supplies.{Supply, need_code, state}
-use Rattle.lx_layout.specs.TestTrees.{TestTree, inner_blocks, picked, tree_code}
+use Rattle.lx_dispatch.specs.TestTrees.{TestTree, picked}
+use Rattle.lx_layout.specs.TreeCodes.{inner_blocks, tree_code}
 
 module _ (supply : Supply) (halting : Halting) (endings : ℕ → Ending) (greatest : ℕ) (auto : Auto) (blocks : List (List Stmt)) (place saved rules : ℕ → ℕ) (fall : ℕ) where
   abbrev Has : (block : ℕ) → List Stmt → Type 0

@@ -25,7 +25,7 @@ use Rattle.lx_layout.specs.RightInMode.{AreStoredBy}
 use Rattle.lx_layout.specs.Stops.{last_standing, or_here, told_found}
 use Rattle.lx_layout.specs.Supplied.{IsTarget, Serves, ServesReader, at_end, by_jump, by_tests, itself}
 use Rattle.lx_layout.specs.Supplies.{Reader, Supply, need_code}
-use Rattle.lx_layout.specs.TestTrees.{tree_code}
+use Rattle.lx_layout.specs.TreeCodes.{tree_code}
 use Rattle.lx_layout.proofs.BlockLayouts.CodesInBlocks.{length-block}
 use Rattle.lx_layout.proofs.BlockLayouts.Questions.{FitsTable}
 use Rattle.lx_layout.proofs.Runs.PartialRuns.{EndsIn, LeadsIn, end_in, then_in}

@@ -14,7 +14,7 @@ use Rattle.lx_layout.specs.Halting.{Halting}
 use Rattle.lx_layout.specs.RightInMode.{AreStoredBy}
 use Rattle.lx_layout.specs.Supplied.{ServesEnd, ServesReader, at_end, by_jump, by_tests, itself}
 use Rattle.lx_layout.specs.Supplies.{Reader, Supply, need_code}
-use Rattle.lx_layout.specs.TestTrees.{tree_code}
+use Rattle.lx_layout.specs.TreeCodes.{tree_code}
 use Rattle.lx_layout.proofs.BlockLayouts.Questions.{FitsTable}
 use Rattle.lx_layout.proofs.Supplied.CountedReaders.{itself_run, jump_run, tests_run}
 use Rattle.lx_layout.proofs.Supplied.EndReaders.{fixed_run, stored_run, tried_run, unit_run}

@@ -9,7 +9,8 @@ use Rattle.lx_layout.specs.Carries.{HasEdge}
 use Rattle.lx_layout.specs.Halting.{Halting, is_entered}
 use Rattle.lx_layout.specs.SuppliedLayout.{at_end_size, entry_part_size, entry_tests_size, fall_block, place_by, place_of, reader_size, rule_block, size_in, state_size, states_begin}
 use Rattle.lx_layout.specs.Supplies.{Reader, Supply, entry}
-use Rattle.lx_layout.specs.TestTrees.{TestTree, inner_size}
+use Rattle.lx_dispatch.specs.TestTrees.{TestTree}
+use Rattle.lx_layout.specs.TreeCodes.{inner_size}
 use Rattle.lx_layout.proofs.Carrying.RunStates.{edge_within}
 use Rattle.lx_layout.proofs.Supplied.EnteredStates.{behind_entry}
 use Rattle.lx_layout.proofs.SuppliedLayouts.EachLayout.{some_class}

@@ -1,12 +1,12 @@
 -- A unit that is taken out of the tests of a state goes its own way, and all others go as before.
-use Rattle.std.specs.Prelude.{◌≡◌, ◌≢◌, ℕ, suc, ◌-◌, ◌<◌, ◌≤◌, Bool, true, false, List, [], ◌∷◌, length, Option, Some, nat_le, nat_lt, refl, if◌then◌else◌}
+use Rattle.std.specs.Prelude.{◌≡◌, ◌≢◌, ℕ, suc, ◌-◌, ◌<◌, ◌≤◌, Bool, true, false, List, [], ◌∷◌, length, max, Option, Some, nat_le, nat_lt, refl, if◌then◌else◌}
 use Rattle.std.proofs.Common.{sym, ap, ◌∙◌, arith, le-leb, leb-true, leb-false}
 use Rattle.lx_auto.specs.Automaton.{AreApartFrom, edge_on}
 use Rattle.lx_auto.specs.declared.automaton.Edge.{Edge}
-use Rattle.lx_layout.specs.TestTrees.{PicksAs, TestTree, class_on, picked, split_class}
-use Rattle.lx_layout.specs.TransitionClasses.{Split, Stretch, edge_class, edge_split, transition_classes}
-use Rattle.lx_layout.specs.UnitApart.{apart_from, reader_split, stretch_behind, unit_last, unit_then, units_before, with_test}
-use Rattle.lx_layout.proofs.BlockLayouts.Splits.{class_on-edge_split}
+use Rattle.lx_dispatch.specs.TestTrees.{PicksAs, TestTree, class_on, picked, split_class}
+use Rattle.lx_dispatch.specs.TransitionClasses.{Split, Stretch, edge_class, edge_split, transition_classes}
+use Rattle.lx_dispatch.specs.UnitApart.{apart_from, reader_split, stretch_behind, unit_last, unit_then, units_before, with_test}
+use Rattle.lx_dispatch.proofs.Splits.{class_on-edge_split}
 
 not_le : (a b : ℕ) → b < a → nat_le a b ≡ false
 not_le a b lt = by (nat_le a b) refl
@@ -136,16 +136,16 @@ module _ (greatest apart place : ℕ) where
 -- ---- a tree of the tests of a reader
 
 pub picked-own : (sets : (set unit : ℕ) → Bool) (eof greatest : ℕ) (edges : List Edge) (tree : TestTree (Option ℕ))
-    → PicksAs sets (reader_split (Some eof) greatest edges) tree → picked sets tree eof ≡ Some (length (transition_classes edges))
+    → PicksAs (max eof greatest) sets (reader_split (Some eof) greatest edges) tree → picked sets tree eof ≡ Some (length (transition_classes edges))
 picked-own sets eof greatest edges tree picks =
-    picks eof
+    picks eof (omega arith)
     ∙ apart_own greatest eof (length (transition_classes edges)) 0 (edge_split greatest edges).tests (edge_split greatest edges).last
 
 pub picked-other : (sets : (set unit : ℕ) → Bool) (eof greatest : ℕ) (edges : List Edge) (tree : TestTree (Option ℕ)) (unit : ℕ)
-    → PicksAs sets (reader_split (Some eof) greatest edges) tree → AreApartFrom 0 edges → unit ≤ greatest → unit ≢ eof
+    → PicksAs (max eof greatest) sets (reader_split (Some eof) greatest edges) tree → AreApartFrom 0 edges → unit ≤ greatest → unit ≢ eof
     → picked sets tree unit ≡ edge_class (transition_classes edges) (edge_on edges unit)
 picked-other sets eof greatest edges tree unit picks apart le other =
-    picks unit
+    picks unit (omega (arith, le))
     ∙ apart_others greatest eof (length (transition_classes edges)) 0 (edge_split greatest edges).tests (edge_split greatest edges).last unit
     (omega arith) le other
     ∙ class_on-edge_split greatest edges unit apart le

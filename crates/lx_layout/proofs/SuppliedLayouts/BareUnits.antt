@@ -4,9 +4,9 @@ use Rattle.std.proofs.Common.{inl, inr, ◌∙◌, arith, leb-false}
 use Rattle.lx_auto.specs.Automaton.{AreApartFrom, edge_on}
 use Rattle.lx_auto.specs.declared.automaton.Edge.{Edge}
 use Rattle.lx_auto.proofs.Edges.{edge_on-before, edge_on-below, edge_on-past}
-use Rattle.lx_layout.specs.TestTrees.{HasWay}
-use Rattle.lx_layout.specs.TransitionClasses.{Split, Stretch, before, class_place, edge_split, first_class, same_place, split_of, stretches, transition_classes}
-use Rattle.lx_layout.specs.UnitApart.{apart_from, reader_split, stretch_behind, unit_last, unit_then, units_before, with_test}
+use Rattle.lx_dispatch.specs.TestTrees.{HasWay}
+use Rattle.lx_dispatch.specs.TransitionClasses.{Split, Stretch, before, class_place, edge_split, first_class, same_place, split_of, stretches, transition_classes}
+use Rattle.lx_dispatch.specs.UnitApart.{apart_from, reader_split, stretch_behind, unit_last, unit_then, units_before, with_test}
 
 -- some units go to no class
 abbrev HasNone : Split → Type 0

@@ -1,5 +1,5 @@
 -- A piece whose blocks are a layout with a supply of units carries the automaton.
-use Rattle.std.specs.Prelude.{◌≡◌, ◌⊎◌, ℕ, suc, ◌+◌, ◌≤◌, Bool, true, false, List, [], ◌∷◌, Option, Some, None, All, IsSome, refl, slice_get}
+use Rattle.std.specs.Prelude.{◌≡◌, ◌⊎◌, ℕ, ◌+◌, ◌≤◌, Bool, true, false, List, Option, Some, None, All, IsSome, refl, slice_get}
 use Rattle.std.proofs.Common.{inl, inr, sym, ap, subst, true≢false}
 use Rattle.std.specs.List.{AllByRecursion}
 use Rattle.lx_auto.specs.Automaton.{IsAuto}
@@ -18,11 +18,11 @@ use Rattle.lx_layout.specs.Carries.{Carries, HasEdge, IsUnitOf, NamesItsOwn}
 use Rattle.lx_layout.specs.Endings.{Ending}
 use Rattle.lx_auto.specs.Shapes.{AreAgreed}
 use Rattle.lx_layout.specs.Layout.{StandsFrom}
-use Rattle.lx_layout.specs.SuppliedLayout.{EachReader, EachState, entry_by, entry_of, fall_block, number_in, place_of, rule_block, supplied_layout}
+use Rattle.lx_layout.specs.SuppliedLayout.{EachReader, entry_by, entry_of, fall_block, number_in, place_of, rule_block, supplied_layout}
 use Rattle.lx_layout.specs.Halting.{AreHalting, Halting}
 use Rattle.lx_layout.specs.Supplies.{Reader, Supply}
-use Rattle.lx_layout.specs.TestTrees.{IsTreeOf, PicksAs, TestTree, TestsWithin}
-use Rattle.lx_layout.specs.TransitionClasses.{Split}
+use Rattle.lx_dispatch.specs.Dispatch.{top_of}
+use Rattle.lx_dispatch.specs.TestTrees.{PicksAs, TestTree}
 use Rattle.lx_layout.proofs.BlockLayouts.Questions.{FitsTable}
 use Rattle.lx_layout.proofs.Carrying.SuppliedCarried.{supplied_carries_at}
 use Rattle.lx_layout.proofs.SuppliedLayouts.ApartPlaces.{entered_place, places_apart}
@@ -31,22 +31,14 @@ use Rattle.lx_layout.proofs.SuppliedLayouts.HeldLayouts.{layout_any}
 use Rattle.lx_layout.proofs.SuppliedLayouts.LayoutServes.{layout_entered, layout_serves}
 use Rattle.lx_layout.proofs.SuppliedLayouts.OwnBlocks.{all-contained, all-get, each_from-get, none-contained, scanner_code}
 use Rattle.lx_layout.proofs.SuppliedLayouts.PeekedBlocks.{ReadsAtHome, peeks, peeks-sorts}
-
--- what holds of trees holds of all trees of readers
-module _ (P Q : Split → TestTree (Option ℕ) → Type 0) (f : (split : Split) (tree : TestTree (Option ℕ)) → P split tree → Q split tree) (eof : Option ℕ)
-    (greatest : ℕ) (trees : Reader → TestTree (Option ℕ)) where
-  each_state : (s : ℕ) (states : List State) → EachState P eof greatest trees s states → EachState Q eof greatest trees s states
-  each_state s [] are = tt
-  each_state s (given ∷ states) are = (f _ _ are.0, each_state (suc s) states are.1)
-
-  pub each_reader : (auto : Auto) → EachReader P eof greatest trees auto → EachReader Q eof greatest trees auto
-  each_reader auto are = record { states = each_state 0 auto.states are.states; entry = f _ _ are.entry }
+use Rattle.lx_layout.proofs.SuppliedLayouts.LeadingTrees.{LeadsWithin}
 
 module _ (piece : Piece) (endings : ℕ → Ending) (end_rule : Option ℕ) (greatest : ℕ) (auto : Auto) (supply : Supply) (halting : Halting)
     (trees : Reader → TestTree (Option ℕ)) (begin : ℕ) (formed : IsAuto auto)
     (within : All (λ (state : State). All (λ (edge : Edge). edge.hi ≤ greatest) state.edges) auto.states)
     (agreed : AreAgreed auto.states) (some : IsSome end_rule → IsSome supply.eof)
-    (are : EachReader IsTreeOf supply.eof greatest trees auto) (marked : AreHalting supply.eof end_rule greatest auto halting)
+    (picked : EachReader (PicksAs (top_of supply.eof greatest) supply.among) supply.eof greatest trees auto)
+    (are : EachReader LeadsWithin supply.eof greatest trees auto) (marked : AreHalting supply.eof end_rule greatest auto halting)
     (stands : StandsFrom (code_of piece.blocks) begin (supplied_layout supply halting endings end_rule trees auto begin))
     (stored : (supply.stored ≡ None) ⊎ AreOnce (states_from 0 piece.blocks)) where
   abbrev place : ℕ → ℕ
@@ -58,9 +50,6 @@ module _ (piece : Piece) (endings : ℕ → Ending) (end_rule : Option ℕ) (gre
   abbrev codes : List (List Stmt)
   codes = supplied_layout supply halting endings end_rule trees auto begin
 
-  tests : EachReader TestsWithin supply.eof greatest trees auto
-  tests = each_reader IsTreeOf TestsWithin (λ split tree is. is.ends) supply.eof greatest trees auto are
-
   -- where a unit may be read
   abbrev Home : ℕ → Type 0
   Home block = (block ≡ first) ⊎ ((number : ℕ) × HasEdge auto number × (place number ≡ block))
@@ -68,7 +57,7 @@ module _ (piece : Piece) (endings : ℕ → Ending) (end_rule : Option ℕ) (gre
   homes : EachFrom (ReadsAtHome Home) begin (supplied_layout supply halting endings end_rule trees auto begin)
   homes =
       layout_any (ReadsAtHome Home) (λ reader at. Home at) (λ units. Unit {0}) supply halting endings auto (peeks-sorts Home supply halting endings auto)
-      end_rule greatest trees begin formed tests (λ s. tt)
+      end_rule greatest trees begin formed are (λ s. tt)
       (λ s lt entered edge. inr (s, edge, entered_place supply halting end_rule trees auto begin some s lt edge entered))
       (λ rule is. inl (sym (ap (λ o. entry_by supply halting end_rule trees auto begin o) is)))
 
@@ -76,7 +65,7 @@ module _ (piece : Piece) (endings : ℕ → Ending) (end_rule : Option ℕ) (gre
   found : (block : ℕ) (statement : Stmt) → IsOfScanner piece.blocks first block → (there : StandsIn piece.blocks block statement)
       → (k : ℕ) × (begin + k ≡ block) × (slice_get (supplied_layout supply halting endings end_rule trees auto begin) k ≡ Some there.0)
   found block statement of there =
-      scanner_code piece.blocks supply halting endings end_rule greatest trees auto begin formed tests marked stands stored block of there.0 there.1
+      scanner_code piece.blocks supply halting endings end_rule greatest trees auto begin formed are marked stands stored block of there.0 there.1
 
   home : (block : ℕ) → IsOfScanner piece.blocks first block → StandsIn piece.blocks block Peek → Home block
   home block of there = by (peeks there.0) refl
@@ -93,11 +82,10 @@ module _ (piece : Piece) (endings : ℕ → Ending) (end_rule : Option ℕ) (gre
       → (carries : Carries piece (entry_of supply halting end_rule trees auto begin) endings auto)
       × (carries.place ≡ place_of supply halting end_rule trees auto begin)
   layout_carries_at eof fits units own =
-      let picks = each_reader IsTreeOf (PicksAs supply.among) (λ split tree is. is.picks supply.among) supply.eof greatest trees auto are in
       supplied_carries_at supply halting endings greatest auto piece (place_of supply halting end_rule trees auto begin) (number_in halting auto.states)
       (rule_block supply halting end_rule trees auto begin) (fall_block supply halting end_rule trees auto begin) end_rule first
-      (layout_serves supply halting endings end_rule greatest trees auto begin (code_of piece.blocks) stands formed within picks marked agreed)
-      (layout_entered supply halting endings end_rule greatest trees auto begin (code_of piece.blocks) stands formed within picks marked some) formed fits units
+      (layout_serves supply halting endings end_rule greatest trees auto begin (code_of piece.blocks) stands formed within picked marked agreed)
+      (layout_entered supply halting endings end_rule greatest trees auto begin (code_of piece.blocks) stands formed within picked marked some) formed fits units
       (λ s t. places_apart supply halting end_rule trees auto begin some s t) (λ block of peek. home block of peek)
       (λ statement made.
       let at = found made.0 statement made.1 made.2 in

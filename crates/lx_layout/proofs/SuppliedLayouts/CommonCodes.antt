@@ -1,4 +1,4 @@
--- Code that all layouts have reads no unit, asks for no refill and stores no state.
+-- Code that all layouts have reads and tests no unit, asks for no refill and stores no state.
 use Rattle.std.specs.Prelude.{◌≡◌, ℕ, zero, suc, Bool, true, false, List, [], ◌∷◌, Option, Some, None, ◌||◌, refl}
 use Rattle.std.proofs.Common.{ap, ◌∙◌}
 use Rattle.std.specs.List.{AllByRecursion, list_any}
@@ -10,19 +10,23 @@ use Rattle.lx_auto.specs.declared.automaton.State.{State}
 use Rattle.lx_auto.specs.declared.ops.Op.{Op}
 use Rattle.lx_auto.specs.declared.ops.Op.TheVariants.{Here, Null, Copy, MHere, MNull, MCopy}
 use Rattle.lx_ccode.specs.declared.piece.Stmt.{Stmt}
-use Rattle.lx_ccode.specs.declared.piece.Stmt.TheVariants.{Goto, Need, Peek, Skip, State as Store, Try}
+use Rattle.lx_ccode.specs.declared.piece.Stmt.TheVariants.{Goto, IfIs, IfSet, IfUnit, Need, Peek, Skip, State as Store, Switch, Try}
 use Rattle.lx_sequence.specs.ParallelCopies.{sequentialized}
 use Rattle.lx_layout.specs.Codes.{Choice, accept_code, list_code, ops_code, save_code}
 use Rattle.lx_layout.specs.Endings.{Ending, action_code, back_code, cond_code, ending_code, ends_code, groups_code, is_slash, last_code, slash_held, tag_code, tags_code, unless}
 use Rattle.lx_layout.specs.Fallback.{edge_code, fallback_code}
 use Rattle.lx_layout.specs.Halting.{Halting, saves_on}
 
--- all statements but four sorts of them
+-- all statements but those that read or test a unit, ask for a refill or store a state
 abbrev pub is_common : Stmt → Bool
 is_common Peek = false
 is_common (Need units) = false
 is_common (Try block) = false
 is_common (Store state) = false
+is_common (IfUnit greatest block) = false
+is_common (IfIs unit block) = false
+is_common (IfSet set block) = false
+is_common (Switch cases last) = false
 is_common _ = true
 
 abbrev pub AreCommon : List Stmt → Type 0

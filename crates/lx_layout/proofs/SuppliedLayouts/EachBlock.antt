@@ -15,7 +15,8 @@ use Rattle.lx_layout.specs.Halting.{Halting}
 use Rattle.lx_layout.specs.SuppliedLayout.{at_end_blocks, at_end_size, blocks_at_end, check_blocks, read_blocks, reader_blocks, reader_size, refill_blocks, refill_size, size_at_end}
 use Rattle.lx_layout.specs.Supplies.{Reader, Supply, back_code, end_test, need_code, try_code}
 use Rattle.lx_layout.proofs.Validity.EachElement.{each-append}
-use Rattle.lx_layout.specs.TestTrees.{Asked, EachTest, Question, TestTree, asks, by_cases, by_question, fork, inner_blocks, inner_size, leaf, switch, switch_cases, test, tree_code}
+use Rattle.lx_dispatch.specs.TestTrees.{Asked, EachTest, Question, TestTree, by_cases, by_question, fork, leaf, switch, test}
+use Rattle.lx_layout.specs.TreeCodes.{asks, inner_blocks, inner_size, switch_cases, tree_code}
 
 -- of codes that stand in blocks from a number on, with the number of each
 abbrev pub EachFrom : (P : ℕ → List Stmt → Type 0) → (from : ℕ) → List (List Stmt) → Type 0

@@ -16,10 +16,10 @@ use Rattle.lx_layout.specs.Halting.{Halting, halted_accept, is_entered}
 use Rattle.lx_layout.specs.Layout.{end_block, end_blocks, end_size, lone_blocks, own_block, own_blocks, own_size, saved_number}
 use Rattle.lx_layout.specs.SuppliedLayout.{at_end_blocks, at_end_size, blocks_by, class_blocks, classes_begin, kept, lone_number, own_end, reader_blocks, reader_size, size_in, sized, state_blocks, state_end, state_size, state_to, state_way, states_blocks, tests_of, tests_size, turn_begin, turn_of, turn_size, with_blocks}
 use Rattle.lx_layout.specs.Supplies.{Reader, Supply, state}
-use Rattle.lx_layout.specs.TestTrees.{Asked, EachTest, TestTree, by_cases, fork, leaf, switch, test}
-use Rattle.lx_layout.specs.TransitionClasses.{class_place, classes_onto, edge_class, has_class, transition_classes}
-use Rattle.lx_layout.proofs.BlockLayouts.Questions.{each-cases_by, units-by}
-use Rattle.lx_layout.proofs.BlockLayouts.ClassLists.{class_found, has_class-on}
+use Rattle.lx_dispatch.specs.TestTrees.{Asked, EachTest, TestTree, by_cases, fork, leaf, switch, test}
+use Rattle.lx_dispatch.specs.TransitionClasses.{class_place, classes_onto, edge_class, has_class, transition_classes}
+use Rattle.lx_dispatch.proofs.Cases.{each-cases_by, units-by}
+use Rattle.lx_dispatch.proofs.ClassLists.{class_found, has_class-on}
 use Rattle.lx_layout.proofs.SuppliedLayouts.EachBlock.{EachFrom, HoldsOfSorts, each-at_end, each-reader, each_from-append}
 use Rattle.lx_layout.proofs.SuppliedLayouts.Lengths.{length-class_blocks, length-state_blocks, length-tests_of, length-turn_of}
 use Rattle.lx_layout.proofs.SuppliedLayouts.Readers.{reader_size-with_blocks}

@@ -13,11 +13,11 @@ use Rattle.lx_layout.specs.Endings.{Ending}
 use Rattle.lx_layout.specs.Halting.{AreHalting, Halting, at_end, bare, here, is_entered, lone}
 use Rattle.lx_layout.specs.SuppliedLayout.{EachReader, end_rule_block, end_rule_part, place_of, states_begin, supplied_layout}
 use Rattle.lx_layout.specs.Supplies.{Reader, Supply, entry, state}
-use Rattle.lx_layout.specs.TestTrees.{Asked, AsksAtMost, EachTest, HasEnd, HasWay, TestTree, TestsWithin, at_most, by_question}
-use Rattle.lx_layout.specs.TransitionClasses.{transition_classes}
-use Rattle.lx_layout.specs.UnitApart.{reader_split}
+use Rattle.lx_dispatch.specs.TestTrees.{EachTest, HasWay, TestTree}
+use Rattle.lx_dispatch.specs.TransitionClasses.{transition_classes}
+use Rattle.lx_dispatch.specs.UnitApart.{reader_split}
 use Rattle.lx_layout.proofs.BlockLayouts.FirstAccepts.{Chosen}
-use Rattle.lx_layout.proofs.BlockLayouts.SplitTrees.{asked-at_most, each-tests}
+use Rattle.lx_dispatch.proofs.SplitTrees.{each-tests}
 use Rattle.lx_layout.proofs.SuppliedLayouts.BareUnits.{bare_unit}
 use Rattle.lx_layout.proofs.SuppliedLayouts.EachBlock.{EachFrom, HoldsOfSorts}
 use Rattle.lx_layout.proofs.SuppliedLayouts.EachLayout.{CanEnd, EndsRight, IsWay}
@@ -25,6 +25,7 @@ use Rattle.lx_layout.proofs.SuppliedLayouts.Lengths.{length-layout}
 use Rattle.lx_layout.proofs.SuppliedLayouts.Places.{begin_in, tree_at}
 use Rattle.lx_layout.proofs.SuppliedLayouts.ReaderWays.{end_places, reader_way}
 use Rattle.lx_layout.proofs.SuppliedLayouts.WholeLayout.{layout_each, places}
+use Rattle.lx_layout.proofs.SuppliedLayouts.LeadingTrees.{LeadsWithin}
 
 -- nothing is asked of accepts and of edges
 pub accepts_any : (states : List State) → AllByRecursion (λ (state : State). Chosen (λ accept. Unit {0}) state.accept) states
@@ -76,18 +77,15 @@ module _ (B : ℕ → Type 0) (supply : Supply) (halting : Halting) (end_rule : 
 
   -- ---- where tests lead
 
-  module _ (G : Asked → Type 0)
-      (units : (s unit : ℕ) → s < length auto.states → HasEnd (reader_split supply.eof greatest (state_of auto.states s).edges).tests unit
-      → G (by_question (at_most unit)))
-      (formed : IsAuto auto) (marked : IsMarked) where
-    tree_leads : (s : ℕ) → s < length auto.states → (tree : TestTree (Option ℕ)) → TestsWithin (reader_split supply.eof greatest (state_of auto.states s).edges) tree
-        → EachTest G (IsWay B halting s (end_places supply.eof + length (transition_classes (state_of auto.states s).edges))) tree
+  module _ (formed : IsAuto auto) (marked : IsMarked) where
+    tree_leads : (s : ℕ) → s < length auto.states → (tree : TestTree (Option ℕ)) → LeadsWithin (reader_split supply.eof greatest (state_of auto.states s).edges) tree
+        → EachTest (λ asked. Unit {0}) (IsWay B halting s (end_places supply.eof + length (transition_classes (state_of auto.states s).edges))) tree
     tree_leads s lt tree within =
         let edges : List Edge = (state_of auto.states s).edges in
-        each-tests (AsksAtMost (HasEnd (reader_split supply.eof greatest edges).tests)) G
+        each-tests (λ asked. Unit {0}) (λ asked. Unit {0})
         (HasWay (reader_split supply.eof greatest edges).tests (reader_split supply.eof greatest edges).last)
         (IsWay B halting s (end_places supply.eof + length (transition_classes edges)))
-        (asked-at_most (HasEnd (reader_split supply.eof greatest edges).tests) G (λ unit has. units s unit lt has)) (λ class has. way class has) tree within
+        (λ asked any. any) (λ class has. way class has) tree within
       where
         way : (class : Option ℕ)
             → HasWay (reader_split supply.eof greatest (state_of auto.states s).edges).tests (reader_split supply.eof greatest (state_of auto.states s).edges).last class
@@ -95,31 +93,29 @@ module _ (B : ℕ → Type 0) (supply : Supply) (halting : Halting) (end_rule : 
         way None has = bare_ends formed marked s lt has
         way (Some place) has = reader_way supply.eof greatest (state_of auto.states s).edges (Some place) has
 
-    module _ (trees : Reader → TestTree (Option ℕ)) (are : EachReader TestsWithin supply.eof greatest trees auto) where
+    module _ (trees : Reader → TestTree (Option ℕ)) (are : EachReader LeadsWithin supply.eof greatest trees auto) where
       pub state_leads : (s : ℕ) → s < length auto.states
-          → EachTest G (IsWay B halting s (end_places supply.eof + length (transition_classes (state_of auto.states s).edges))) (trees (state s))
+          → EachTest (λ asked. Unit {0}) (IsWay B halting s (end_places supply.eof + length (transition_classes (state_of auto.states s).edges))) (trees (state s))
       state_leads s lt =
           let e : 0 + s ≡ s = omega arith in
           tree_leads s lt (trees (state s))
-          (subst (λ k. TestsWithin (reader_split supply.eof greatest (state_of auto.states s).edges) (trees (state k))) e
-          (tree_at TestsWithin supply.eof greatest trees 0 auto.states are.states s lt))
+          (subst (λ k. LeadsWithin (reader_split supply.eof greatest (state_of auto.states s).edges) (trees (state k))) e
+          (tree_at LeadsWithin supply.eof greatest trees 0 auto.states are.states s lt))
 
-      pub entry_leads : EachTest G (IsWay B halting 0 (end_places supply.eof + length (transition_classes (state_of auto.states 0).edges))) (trees entry)
+      pub entry_leads : EachTest (λ asked. Unit {0}) (IsWay B halting 0 (end_places supply.eof + length (transition_classes (state_of auto.states 0).edges))) (trees entry)
       entry_leads = tree_leads 0 formed.start (trees entry) are.entry
 
 -- ---- the whole
 
 -- the property holds of the code of each sort, and jumps go to blocks of the layout
-module _ (P : ℕ → List Stmt → Type 0) (B : ℕ → Type 0) (G : Asked → Type 0) (R : Reader → ℕ → Type 0) (C : ℕ → Type 0) (E : State → Edge → Type 0) (A : Accept → Type 0) (D : ℕ → Type 0)
-    (supply : Supply) (halting : Halting) (endings : ℕ → Ending) (auto : Auto) (holds : HoldsOfSorts P B G R C E A D supply halting endings auto)
+module _ (P : ℕ → List Stmt → Type 0) (B : ℕ → Type 0) (R : Reader → ℕ → Type 0) (C : ℕ → Type 0) (E : State → Edge → Type 0) (A : Accept → Type 0) (D : ℕ → Type 0)
+    (supply : Supply) (halting : Halting) (endings : ℕ → Ending) (auto : Auto) (holds : HoldsOfSorts P B (λ asked. Unit {0}) R C E A D supply halting endings auto)
     (end_rule : Option ℕ) (greatest : ℕ) (trees : Reader → TestTree (Option ℕ)) (begin : ℕ)
     (range : (block : ℕ) → begin ≤ block → block < begin + length (supplied_layout supply halting endings end_rule trees auto begin) → B block)
-    (marked : IsMarked B supply halting end_rule greatest auto) (formed : IsAuto auto) (are : EachReader TestsWithin supply.eof greatest trees auto) where
+    (marked : IsMarked B supply halting end_rule greatest auto) (formed : IsAuto auto) (are : EachReader LeadsWithin supply.eof greatest trees auto) where
   module _ (asked : (s : ℕ) → C (supply.check s))
       (accepts : AllByRecursion (λ (state : State). Chosen A state.accept) auto.states)
       (edges : AllByRecursion (λ (state : State). AllByRecursion (E state) state.edges) auto.states)
-      (units : (s unit : ℕ) → s < length auto.states → HasEnd (reader_split supply.eof greatest (state_of auto.states s).edges).tests unit
-      → G (by_question (at_most unit)))
       (readers : (s : ℕ) → s < length auto.states → is_entered end_rule auto s ≡ true → ((state_of auto.states s).edges ≡ [] → ⊥)
       → R (state s) (begin_in supply halting end_rule trees auto 0 (states_begin supply halting end_rule trees auto begin) auto.states s))
       (entry_reads : (rule : ℕ) → end_rule ≡ Some rule → R entry begin) (ends_by : (rule : ℕ) → end_rule ≡ Some rule → D rule) where
@@ -131,30 +127,30 @@ module _ (P : ℕ → List Stmt → Type 0) (B : ℕ → Type 0) (G : Asked → 
 
     pub layout_holds : EachFrom P begin (supplied_layout supply halting endings end_rule trees auto begin)
     layout_holds =
-        layout_each P B G R C E A D supply halting endings auto holds end_rule trees begin end range asked room formed accepts edges
+        layout_each P B (λ asked. Unit {0}) R C E A D supply halting endings auto holds end_rule trees begin end range asked room formed accepts edges
         (ends_right B supply halting end_rule greatest auto marked)
-        (state_leads B supply halting end_rule greatest auto G units formed marked trees are)
-        (entry_leads B supply halting end_rule greatest auto G units formed marked trees are) readers entry_reads ends_by
+        (state_leads B supply halting end_rule greatest auto formed marked trees are)
+        (entry_leads B supply halting end_rule greatest auto formed marked trees are) readers entry_reads ends_by
 
     -- states stand at blocks of the sort
     pub places_hold : (s : ℕ) → s < length auto.states → B (place_of supply halting end_rule trees auto begin s)
     places_hold s lt =
-        places P B G R C E A D supply halting endings auto holds end_rule trees begin end range asked room formed accepts edges
+        places P B (λ asked. Unit {0}) R C E A D supply halting endings auto holds end_rule trees begin end range asked room formed accepts edges
         (ends_right B supply halting end_rule greatest auto marked)
-        (state_leads B supply halting end_rule greatest auto G units formed marked trees are)
-        (entry_leads B supply halting end_rule greatest auto G units formed marked trees are) readers entry_reads ends_by s lt
+        (state_leads B supply halting end_rule greatest auto formed marked trees are)
+        (entry_leads B supply halting end_rule greatest auto formed marked trees are) readers entry_reads ends_by s lt
 
 -- the same where nothing is asked but of what reads and of its checks
 module _ (P : ℕ → List Stmt → Type 0) (R : Reader → ℕ → Type 0) (C : ℕ → Type 0) (supply : Supply) (halting : Halting) (endings : ℕ → Ending) (auto : Auto)
     (holds : HoldsOfSorts P (λ block. Unit {0}) (λ unit. Unit {0}) R C (λ given edge. Unit {0}) (λ accept. Unit {0}) (λ rule. Unit {0}) supply halting endings auto)
     (end_rule : Option ℕ) (greatest : ℕ) (trees : Reader → TestTree (Option ℕ)) (begin : ℕ) (formed : IsAuto auto)
-    (are : EachReader TestsWithin supply.eof greatest trees auto) where
+    (are : EachReader LeadsWithin supply.eof greatest trees auto) where
   pub layout_any : ((s : ℕ) → C (supply.check s))
       → ((s : ℕ) → s < length auto.states → is_entered end_rule auto s ≡ true → ((state_of auto.states s).edges ≡ [] → ⊥)
       → R (state s) (begin_in supply halting end_rule trees auto 0 (states_begin supply halting end_rule trees auto begin) auto.states s))
       → ((rule : ℕ) → end_rule ≡ Some rule → R entry begin)
       → EachFrom P begin (supplied_layout supply halting endings end_rule trees auto begin)
   layout_any asked readers entry_reads =
-      layout_holds P (λ block. Unit {0}) (λ unit. Unit {0}) R C (λ given edge. Unit {0}) (λ accept. Unit {0}) (λ rule. Unit {0}) supply halting endings auto holds
+      layout_holds P (λ block. Unit {0}) R C (λ given edge. Unit {0}) (λ accept. Unit {0}) (λ rule. Unit {0}) supply halting endings auto holds
       end_rule greatest trees begin (λ block low lt. tt) (inl (λ block. tt)) formed are asked (accepts_any auto.states) (edges_any auto.states)
-      (λ s unit lt has. tt) readers entry_reads (λ rule is. tt)
+      readers entry_reads (λ rule is. tt)

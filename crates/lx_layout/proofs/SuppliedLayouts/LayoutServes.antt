@@ -18,8 +18,9 @@ use Rattle.lx_layout.specs.Supplied.{Restores, Serves, ServesEntry, ServesState}
 use Rattle.lx_layout.specs.Halting.{AreHalting, Falls, Halting, any_falls, at_end, bare, ended_accepts, here, is_entered, is_saved, lone, onward, saved_accepts}
 use Rattle.lx_layout.specs.SuppliedLayout.{EachReader, at_end_blocks, end_rule_block, end_rule_part, entry_by, entry_part, entry_tests_size, entry_way, fall_block, fallback_part, first_restore, first_rule, kept, number_in, place_by, place_of, reader_blocks, rule_block, state_blocks, state_to, states_begin, states_part, supplied_layout, with_blocks}
 use Rattle.lx_layout.specs.Supplies.{Reader, Supply, entry, state}
-use Rattle.lx_layout.specs.TestTrees.{PicksAs, TestTree}
-use Rattle.lx_layout.specs.UnitApart.{reader_split}
+use Rattle.lx_dispatch.specs.Dispatch.{top_of}
+use Rattle.lx_dispatch.specs.TestTrees.{PicksAs, TestTree}
+use Rattle.lx_dispatch.specs.UnitApart.{reader_split}
 use Rattle.lx_layout.proofs.BlockLayouts.LayoutLengths.{length-ending_blocks, length-restore_blocks}
 use Rattle.lx_layout.proofs.BlockLayouts.CodesInBlocks.{StandsFrom-back, StandsFrom-front, StandsFrom-get}
 use Rattle.lx_layout.proofs.Rules.RuleBlocks.{restore_stands}
@@ -153,7 +154,7 @@ module _ (supply : Supply) (halting : Halting) (endings : ℕ → Ending) (end_r
       (states_stand supply halting end_rule trees auto rules fall begin saves place blocks 0 start auto.states rest states_here s lt)
 
   module _ (formed : IsAuto auto) (within : All (λ (state : State). All (λ (edge : Edge). edge.hi ≤ greatest) state.edges) auto.states)
-      (are : EachReader (PicksAs supply.among) supply.eof greatest trees auto) (marked : AreHalting supply.eof end_rule greatest auto halting) where
+      (are : EachReader (PicksAs (top_of supply.eof greatest) supply.among) supply.eof greatest trees auto) (marked : AreHalting supply.eof end_rule greatest auto halting) where
     halts_right : (s : ℕ) → s < length auto.states → HaltsRight supply halting greatest end_rule auto s (state_of auto.states s)
     halts_right s lt = record {
       lone = λ none. (marked.halts s lt).1 (lone none);
@@ -173,8 +174,8 @@ module _ (supply : Supply) (halting : Halting) (endings : ℕ → Ending) (end_r
         (state_of auto.states s) refl (state_stands s lt) (place_is s lt) entered (state_formed auto s formed).apart
         (All-get_or (λ (state : State). All (λ (edge : Edge). edge.hi ≤ greatest) state.edges) auto.states s
         (record { edges = []; accept = None; leave = [] }) lt within)
-        (subst (λ n. PicksAs supply.among (reader_split supply.eof greatest (state_of auto.states s).edges) (trees (state n))) e
-        (tree_at (PicksAs supply.among) supply.eof greatest trees 0 auto.states are.states s lt)) (halts_right s lt)
+        (subst (λ n. PicksAs (top_of supply.eof greatest) supply.among (reader_split supply.eof greatest (state_of auto.states s).edges) (trees (state n))) e
+        (tree_at (PicksAs (top_of supply.eof greatest) supply.among) supply.eof greatest trees 0 auto.states are.states s lt)) (halts_right s lt)
 
     leads_on : (s : ℕ) (edge : Edge) → s < length auto.states → Contains (state_of auto.states s).edges edge → edge.to < length auto.states
     leads_on s edge lt has = leads_in auto.regs auto.mregs (length auto.states) (state_of auto.states s).edges (state_formed auto s formed).lead has.0 has.1 edge has.2

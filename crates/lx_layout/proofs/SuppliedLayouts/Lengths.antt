@@ -12,8 +12,8 @@ use Rattle.lx_layout.specs.Halting.{Halting, any_falls, ended_accepts, halted_ac
 use Rattle.lx_layout.specs.Layout.{end_blocks, ending_blocks, restore_blocks}
 use Rattle.lx_layout.specs.SuppliedLayout.{at_end_blocks, blocks_by, class_blocks, end_of, end_rule_block, end_rule_part, supplied_layout, states_part, place_of, entry_part, entry_part_size, entry_tests_size, entry_way, fall_block, fallback_part, first_restore, rule_block, states_begin, kept, lone_number, reader_blocks, size_in, sized, state_blocks, state_end, state_size, state_to, state_way, states_blocks, tests_of, tests_size, turn_begin, turn_of, turn_size, with_blocks}
 use Rattle.lx_layout.specs.Supplies.{Reader, Supply, entry, state}
-use Rattle.lx_layout.specs.TestTrees.{TestTree, leaf}
-use Rattle.lx_layout.specs.TransitionClasses.{transition_classes}
+use Rattle.lx_dispatch.specs.TestTrees.{TestTree, leaf}
+use Rattle.lx_dispatch.specs.TransitionClasses.{transition_classes}
 use Rattle.lx_layout.proofs.BlockLayouts.LayoutLengths.{length-end_blocks, length-ending_blocks, length-lone_blocks, length-restore_blocks}
 use Rattle.lx_layout.proofs.SuppliedLayouts.Readers.{length-at_end_blocks, length-reader_blocks, reader_size-with_blocks}
 

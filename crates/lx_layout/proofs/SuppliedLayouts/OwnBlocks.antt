@@ -17,13 +17,14 @@ use Rattle.lx_layout.specs.Halting.{AreHalting, Halting}
 use Rattle.lx_layout.specs.Layout.{StandsFrom}
 use Rattle.lx_layout.specs.SuppliedLayout.{EachReader, JumpsTo, entry_by, entry_of, place_of, supplied_layout}
 use Rattle.lx_layout.specs.Supplies.{Reader, Supply}
-use Rattle.lx_layout.specs.TestTrees.{TestTree, TestsWithin}
+use Rattle.lx_dispatch.specs.TestTrees.{TestTree}
 use Rattle.lx_layout.proofs.BlockLayouts.CodesInBlocks.{StandsFrom-get}
 use Rattle.lx_layout.proofs.SuppliedLayouts.ClosedLayouts.{closed_jumps}
 use Rattle.lx_layout.proofs.SuppliedLayouts.EachBlock.{EachFrom}
 use Rattle.lx_layout.proofs.SuppliedLayouts.HeldLayouts.{accepts_any, edges_any, layout_holds, places_hold}
 use Rattle.lx_layout.proofs.SuppliedLayouts.ReturnBlocks.{ComesBack, comes-sorts, none_head, state_returns}
 use Rattle.lx_layout.proofs.SuppliedLayouts.StoredNothing.{layout_stores_nothing}
+use Rattle.lx_layout.proofs.SuppliedLayouts.LeadingTrees.{LeadsWithin}
 
 -- ---- one of many codes, and one of many
 
@@ -68,7 +69,7 @@ block_list-contains (Some block) next has = all-contained (λ other. Some block 
 -- ---- the layout
 
 module _ (blocks : List CodeBlock) (supply : Supply) (halting : Halting) (endings : ℕ → Ending) (end_rule : Option ℕ) (greatest : ℕ)
-    (trees : Reader → TestTree (Option ℕ)) (auto : Auto) (begin : ℕ) (formed : IsAuto auto) (are : EachReader TestsWithin supply.eof greatest trees auto)
+    (trees : Reader → TestTree (Option ℕ)) (auto : Auto) (begin : ℕ) (formed : IsAuto auto) (are : EachReader LeadsWithin supply.eof greatest trees auto)
     (marked : AreHalting supply.eof end_rule greatest auto halting)
     (stands : StandsFrom (code_of blocks) begin (supplied_layout supply halting endings end_rule trees auto begin))
     (stored : (supply.stored ≡ None) ⊎ AreOnce (states_from 0 blocks)) where
@@ -95,17 +96,17 @@ module _ (blocks : List CodeBlock) (supply : Supply) (halting : Halting) (ending
 
   comes : EachFrom (ComesBack IsOwn) begin (supplied_layout supply halting endings end_rule trees auto begin)
   comes =
-      layout_holds (ComesBack IsOwn) IsOwn (λ unit. Unit {0}) (λ reader at. Unit {0}) (λ units. Unit {0}) (λ given edge. Unit {0}) (λ accept. Unit {0})
+      layout_holds (ComesBack IsOwn) IsOwn (λ reader at. Unit {0}) (λ units. Unit {0}) (λ given edge. Unit {0}) (λ accept. Unit {0})
       (λ rule. Unit {0}) supply halting endings auto (comes-sorts IsOwn supply halting endings auto) end_rule greatest trees begin (λ block low lt. (low, lt))
-      (inr marked) formed are (λ s. tt) (accepts_any auto.states) (edges_any auto.states) (λ s unit lt has. tt) (λ s lt entered some. tt)
+      (inr marked) formed are (λ s. tt) (accepts_any auto.states) (edges_any auto.states) (λ s lt entered some. tt)
       (λ rule is. tt) (λ rule is. tt)
 
   -- states stand at blocks of the layout, and so does the entry
   pub places_own : (s : ℕ) → s < length auto.states → IsOwn (place_of supply halting end_rule trees auto begin s)
   places_own =
-      places_hold (ComesBack IsOwn) IsOwn (λ unit. Unit {0}) (λ reader at. Unit {0}) (λ units. Unit {0}) (λ given edge. Unit {0}) (λ accept. Unit {0})
+      places_hold (ComesBack IsOwn) IsOwn (λ reader at. Unit {0}) (λ units. Unit {0}) (λ given edge. Unit {0}) (λ accept. Unit {0})
       (λ rule. Unit {0}) supply halting endings auto (comes-sorts IsOwn supply halting endings auto) end_rule greatest trees begin (λ block low lt. (low, lt))
-      (inr marked) formed are (λ s. tt) (accepts_any auto.states) (edges_any auto.states) (λ s unit lt has. tt) (λ s lt entered some. tt)
+      (inr marked) formed are (λ s. tt) (accepts_any auto.states) (edges_any auto.states) (λ s lt entered some. tt)
       (λ rule is. tt) (λ rule is. tt)
 
   entry_own : IsOwn (entry_of supply halting end_rule trees auto begin)

@@ -14,7 +14,7 @@ use Rattle.lx_layout.specs.Supplies.{Reader, Supply, need_code, try_code}
 use Rattle.lx_layout.proofs.BlockLayouts.Questions.{any_question}
 use Rattle.lx_layout.proofs.SuppliedLayouts.CommonCodes.{is_common, none-accept, none-edge, none-ending, none-fallback}
 use Rattle.lx_layout.proofs.SuppliedLayouts.EachBlock.{HoldsOfSorts}
-use Rattle.lx_layout.specs.TestTrees.{switch_cases}
+use Rattle.lx_layout.specs.TreeCodes.{switch_cases}
 
 -- the code reads a unit
 abbrev pub peeks : List Stmt → Bool

@@ -10,9 +10,9 @@ use Rattle.lx_layout.specs.Halting.{Halting}
 use Rattle.lx_layout.specs.Layout.{StandsFrom}
 use Rattle.lx_layout.specs.SuppliedLayout.{EachState, end_of, place_by, place_in, state_blocks, state_size, states_blocks}
 use Rattle.lx_layout.specs.Supplies.{Reader, Supply, state}
-use Rattle.lx_layout.specs.TestTrees.{TestTree}
-use Rattle.lx_layout.specs.TransitionClasses.{Split}
-use Rattle.lx_layout.specs.UnitApart.{reader_split}
+use Rattle.lx_dispatch.specs.TestTrees.{TestTree}
+use Rattle.lx_dispatch.specs.TransitionClasses.{Split}
+use Rattle.lx_dispatch.specs.UnitApart.{reader_split}
 use Rattle.lx_layout.proofs.BlockLayouts.CodesInBlocks.{StandsFrom-back, StandsFrom-front}
 use Rattle.lx_layout.proofs.SuppliedLayouts.Lengths.{length-state_blocks}
 

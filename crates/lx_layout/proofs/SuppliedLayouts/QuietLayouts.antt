@@ -11,12 +11,13 @@ use Rattle.lx_layout.specs.Endings.{Ending}
 use Rattle.lx_layout.specs.Halting.{Halting}
 use Rattle.lx_layout.specs.SuppliedLayout.{EachReader, supplied_layout}
 use Rattle.lx_layout.specs.Supplies.{Reader, Supply, need_code}
-use Rattle.lx_layout.specs.TestTrees.{TestTree, TestsWithin}
+use Rattle.lx_dispatch.specs.TestTrees.{TestTree}
 use Rattle.lx_layout.proofs.BlockLayouts.Questions.{any_question}
 use Rattle.lx_layout.proofs.SuppliedLayouts.CommonCodes.{is_common, none-accept, none-edge, none-ending, none-fallback}
 use Rattle.lx_layout.proofs.SuppliedLayouts.EachBlock.{HoldsOfSorts}
 use Rattle.lx_layout.proofs.SuppliedLayouts.HeldLayouts.{each_from-all, layout_any}
 use Rattle.lx_layout.proofs.SuppliedLayouts.StoredNothing.{others_store}
+use Rattle.lx_layout.proofs.SuppliedLayouts.LeadingTrees.{LeadsWithin}
 
 -- the code asks for no refill and stores no state
 abbrev IsQuiet : List Stmt → Type 0
@@ -57,7 +58,7 @@ quiet_sorts supply halting endings auto fixed = record {
 }
 
 pub layout_quiet : (supply : Supply) (halting : Halting) (endings : ℕ → Ending) (end_rule : Option ℕ) (greatest : ℕ) (trees : Reader → TestTree (Option ℕ))
-    (auto : Auto) (begin : ℕ) → IsAuto auto → EachReader TestsWithin supply.eof greatest trees auto → supply.tries ≡ false
+    (auto : Auto) (begin : ℕ) → IsAuto auto → EachReader LeadsWithin supply.eof greatest trees auto → supply.tries ≡ false
     → ((state : ℕ) → supply.check state ≡ 0)
     → AllByRecursion (λ code. (list_any is_refill code ≡ false) × (list_any is_state code ≡ false)) (supplied_layout supply halting endings end_rule trees auto begin)
 layout_quiet supply halting endings end_rule greatest trees auto begin formed are fixed unchecked =

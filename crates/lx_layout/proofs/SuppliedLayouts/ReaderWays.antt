@@ -4,9 +4,9 @@ use Rattle.std.proofs.Common.{inl, inr, sym, subst, arith}
 use Rattle.lx_auto.specs.declared.automaton.Edge.{Edge}
 use Rattle.lx_layout.specs.SuppliedLayout.{at_end_size, size_at_end}
 use Rattle.lx_layout.specs.Supplies.{Reader, Supply}
-use Rattle.lx_layout.specs.TestTrees.{HasWay}
-use Rattle.lx_layout.specs.TransitionClasses.{Split, Stretch, edge_split, stretches, transition_classes}
-use Rattle.lx_layout.specs.UnitApart.{apart_from, reader_split, stretch_behind, unit_last, unit_then, units_before, with_test}
+use Rattle.lx_dispatch.specs.TestTrees.{HasWay}
+use Rattle.lx_dispatch.specs.TransitionClasses.{Split, Stretch, edge_split, stretches, transition_classes}
+use Rattle.lx_dispatch.specs.UnitApart.{apart_from, reader_split, stretch_behind, unit_last, unit_then, units_before, with_test}
 use Rattle.lx_layout.proofs.Validity.LayoutFits.{AreClasses, AreClasses-split_of, AreClasses-stretches, HaveClasses-onto, IsClass}
 
 -- the unit at the end has a place of its own

@@ -10,8 +10,9 @@ use Rattle.lx_layout.specs.Layout.{StandsFrom}
 use Rattle.lx_layout.specs.Supplied.{ServesEnd, ServesReader, at_end, by_jump, by_tests, itself}
 use Rattle.lx_layout.specs.SuppliedLayout.{at_end_blocks, at_end_size, blocks_at_end, check_blocks, check_size, read_blocks, reader_blocks, reader_size, refill_blocks, refill_size, size_at_end, with_blocks}
 use Rattle.lx_layout.specs.Supplies.{Reader, Supply, end_test, need_code}
-use Rattle.lx_layout.specs.TestTrees.{TestTree, fork, holds, inner_size, leaf, picked, switch, test}
-use Rattle.lx_layout.proofs.BlockLayouts.Questions.{case_way-by}
+use Rattle.lx_dispatch.specs.TestTrees.{TestTree, fork, holds, leaf, picked, switch, test}
+use Rattle.lx_layout.specs.TreeCodes.{inner_size}
+use Rattle.lx_dispatch.proofs.Cases.{case_way-by}
 use Rattle.lx_layout.proofs.BlockLayouts.TreeCodes.{length-inner_blocks}
 
 -- ---- blocks in place of classes

@@ -20,7 +20,7 @@ use Rattle.lx_layout.proofs.Supplied.StoredStates.{IsAmong, among_onto, among_st
 use Rattle.lx_layout.proofs.SuppliedLayouts.CommonCodes.{none-accept, none-edge, none-ending, none-fallback}
 use Rattle.lx_layout.proofs.SuppliedLayouts.EachBlock.{HoldsOfSorts}
 use Rattle.lx_layout.proofs.SuppliedLayouts.StoredNothing.{others_store}
-use Rattle.lx_layout.specs.TestTrees.{switch_cases}
+use Rattle.lx_layout.specs.TreeCodes.{switch_cases}
 
 pub none_head : (t u : Bool) → (t || u) ≡ false → (t ≡ false) × (u ≡ false)
 none_head true u e = absurd (true≢false e)

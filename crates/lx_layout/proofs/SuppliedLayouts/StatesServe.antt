@@ -19,11 +19,12 @@ use Rattle.lx_layout.specs.Fallback.{edge_code}
 use Rattle.lx_layout.specs.Halting.{Halting, halted_accept, is_entered, saves_on}
 use Rattle.lx_layout.specs.SuppliedLayout.{at_end_blocks, blocks_by, class_blocks, classes_begin, entry_tests_size, entry_way, kept, lone_number, own_end, place_by, reader_blocks, reader_size, sized, state_end, state_to, state_way, tests_of, tests_size, turn_begin, turn_of, with_blocks}
 use Rattle.lx_layout.specs.Supplies.{Reader, Supply, entry, state}
-use Rattle.lx_layout.specs.TestTrees.{PicksAs, TestTree, fork, leaf, picked, switch, test}
-use Rattle.lx_layout.specs.TransitionClasses.{class_place, edge_class, has_class, same_class, transition_classes}
-use Rattle.lx_layout.specs.UnitApart.{reader_split}
-use Rattle.lx_layout.proofs.BlockLayouts.ClassLists.{class_found, class_place-first, has_class-on, same_class-ops, same_class-to}
-use Rattle.lx_layout.proofs.BlockLayouts.Splits.{picked-tree}
+use Rattle.lx_dispatch.specs.Dispatch.{top_of}
+use Rattle.lx_dispatch.specs.TestTrees.{PicksAs, TestTree, fork, leaf, picked, switch, test}
+use Rattle.lx_dispatch.specs.TransitionClasses.{class_place, edge_class, has_class, same_class, transition_classes}
+use Rattle.lx_dispatch.specs.UnitApart.{reader_split}
+use Rattle.lx_dispatch.proofs.ClassLists.{class_found, class_place-first, has_class-on, same_class-ops, same_class-to}
+use Rattle.lx_dispatch.proofs.Splits.{picked-tree}
 use Rattle.lx_layout.proofs.BlockLayouts.CodesInBlocks.{StandsFrom-back, StandsFrom-front, StandsFrom-get}
 use Rattle.lx_layout.proofs.SuppliedLayouts.ApartUnits.{picked-other, picked-own}
 use Rattle.lx_layout.proofs.SuppliedLayouts.Lengths.{length-class_blocks, length-tests_of, length-turn_of}
@@ -126,7 +127,7 @@ module _ (supply : Supply) (halting : Halting) (endings : ℕ → Ending) (great
 
   module _ (s from : ℕ) (given : State) (stand : WaysStand s from given) (first_edge : Edge) (edges : List Edge) (some : given.edges ≡ first_edge ∷ edges)
       (at : place s ≡ from) (entered : is_entered end_rule auto s ≡ true) (apart : AreApartFrom 0 given.edges)
-      (within : All (λ (edge : Edge). edge.hi ≤ greatest) given.edges) (picks : PicksAs supply.among (reader_split supply.eof greatest given.edges) (trees (state s)))
+      (within : All (λ (edge : Edge). edge.hi ≤ greatest) given.edges) (picks : PicksAs (top_of supply.eof greatest) supply.among (reader_split supply.eof greatest given.edges) (trees (state s)))
       (halts : Halts s given) where
     abbrev tree : TestTree ℕ
     tree = with_blocks (state_way supply halting end_rule trees auto rules fall begin s from given) (trees (state s))
@@ -140,7 +141,7 @@ module _ (supply : Supply) (halting : Halting) (endings : ℕ → Ending) (great
     plain_picks : supply.eof ≡ None → (unit : ℕ) → unit ≤ greatest → picked supply.among (trees (state s)) unit ≡ to_class unit
     plain_picks none unit le =
         picked-tree supply.among greatest given.edges (trees (state s)) unit
-        (subst (λ o. PicksAs supply.among (reader_split o greatest given.edges) (trees (state s))) none picks) apart le
+        (subst (λ o. PicksAs (top_of o greatest) supply.among (reader_split o greatest given.edges) (trees (state s))) none picks) apart le
 
     -- some unit goes to the first class
     first_class : supply.eof ≡ None → (class : Option ℕ) → trees (state s) ≡ leaf class → class ≡ Some 0
@@ -188,12 +189,12 @@ module _ (supply : Supply) (halting : Halting) (endings : ℕ → Ending) (great
           subst (λ block. Target s given (edge_on given.edges unit) block)
           (sym (picked-with_blocks block_of supply.among (trees (state s)) unit
           ∙ ap block_of (picked-other supply.among eof greatest given.edges (trees (state s)) unit
-          (subst (λ o. PicksAs supply.among (reader_split o greatest given.edges) (trees (state s))) is picks) apart le other)))
+          (subst (λ o. PicksAs (top_of o greatest) supply.among (reader_split o greatest given.edges) (trees (state s))) is picks) apart le other)))
           (way_target s from given stand unit (λ bare. halts.bare unit le bare));
       own = λ eof is.
           picked-with_blocks block_of supply.among (trees (state s)) eof
           ∙ ap block_of (picked-own supply.among eof greatest given.edges (trees (state s))
-          (subst (λ o. PicksAs supply.among (reader_split o greatest given.edges) (trees (state s))) is picks));
+          (subst (λ o. PicksAs (top_of o greatest) supply.among (reader_split o greatest given.edges) (trees (state s))) is picks));
       itself = λ eof is le. way_target s from given stand eof (λ bare. halts.turned (subst (λ o. IsSome o) (sym is) refl) entered);
       ends = λ eof is. ends_here s from given stand (halts.turned (subst (λ o. IsSome o) (sym is) refl) entered);
     }
@@ -308,7 +309,7 @@ module _ (supply : Supply) (halting : Halting) (endings : ℕ → Ending) (great
 
     pub state_serves : place s ≡ place_by supply halting end_rule trees auto rules fall begin s from given.edges given.accept
         → is_entered end_rule auto s ≡ true → AreApartFrom 0 given.edges → All (λ (edge : Edge). edge.hi ≤ greatest) given.edges
-        → PicksAs supply.among (reader_split supply.eof greatest given.edges) (trees (state s)) → Halts s given
+        → PicksAs (top_of supply.eof greatest) supply.among (reader_split supply.eof greatest given.edges) (trees (state s)) → Halts s given
         → ServesState supply halting endings greatest auto blocks place saved rules fall s given
     state_serves at entered apart within picks halts = by given.edges refl at h
       where
@@ -324,7 +325,7 @@ module _ (supply : Supply) (halting : Halting) (endings : ℕ → Ending) (great
   -- ---- the entry
 
   module _ (from : ℕ) (given : State) (stand : WaysStand 0 from given) (rule end eof : ℕ) (is : supply.eof ≡ Some eof)
-      (apart : AreApartFrom 0 given.edges) (picks : PicksAs supply.among (reader_split supply.eof greatest given.edges) (trees entry))
+      (apart : AreApartFrom 0 given.edges) (picks : PicksAs (top_of supply.eof greatest) supply.among (reader_split supply.eof greatest given.edges) (trees entry))
       (halts : Halts 0 given)
       (ends_there : slice_get blocks end ≡ Some (ending_code endings rule [])) where
     abbrev entry_tree : TestTree ℕ
@@ -373,13 +374,13 @@ module _ (supply : Supply) (halting : Halting) (endings : ℕ → Ending) (great
           subst (λ block. Target 0 given (edge_on given.edges unit) block)
           (sym (picked-with_blocks entry_block supply.among (trees entry) unit
           ∙ ap entry_block (picked-other supply.among unit_at greatest given.edges (trees entry) unit
-          (subst (λ o. PicksAs supply.among (reader_split o greatest given.edges) (trees entry)) is_at picks) apart le other)
+          (subst (λ o. PicksAs (top_of o greatest) supply.among (reader_split o greatest given.edges) (trees entry)) is_at picks) apart le other)
           ∙ entry_to (edge_on given.edges unit) (λ edge on. has_class-on given.edges unit edge on)))
           (way_target 0 from given stand unit (λ bare. halts.bare unit le bare));
       own = λ unit_at is_at.
           picked-with_blocks entry_block supply.among (trees entry) unit_at
           ∙ ap entry_block (picked-own supply.among unit_at greatest given.edges (trees entry)
-          (subst (λ o. PicksAs supply.among (reader_split o greatest given.edges) (trees entry)) is_at picks)) ∙ entry_own;
+          (subst (λ o. PicksAs (top_of o greatest) supply.among (reader_split o greatest given.edges) (trees entry)) is_at picks)) ∙ entry_own;
       itself = λ unit_at is_at le. way_target 0 from given stand unit_at (λ bare. halts.bare unit_at le bare);
       ends = λ unit_at is_at. ends_there;
     }

@@ -11,11 +11,12 @@ use Rattle.lx_layout.specs.Endings.{Ending}
 use Rattle.lx_layout.specs.Halting.{Halting}
 use Rattle.lx_layout.specs.Supplies.{Reader, Supply, need_code, try_code}
 use Rattle.lx_layout.specs.SuppliedLayout.{EachReader, supplied_layout}
-use Rattle.lx_layout.specs.TestTrees.{TestTree, TestsWithin}
+use Rattle.lx_dispatch.specs.TestTrees.{TestTree}
 use Rattle.lx_layout.proofs.BlockLayouts.Questions.{any_question}
 use Rattle.lx_layout.proofs.SuppliedLayouts.CommonCodes.{is_common, none-accept, none-edge, none-ending, none-fallback}
 use Rattle.lx_layout.proofs.SuppliedLayouts.EachBlock.{HoldsOfSorts}
 use Rattle.lx_layout.proofs.SuppliedLayouts.HeldLayouts.{each_from-all, layout_any}
+use Rattle.lx_layout.proofs.SuppliedLayouts.LeadingTrees.{LeadsWithin}
 
 -- the code stores no state
 abbrev StoresNone : List Stmt → Type 0
@@ -57,7 +58,7 @@ stores-sorts supply halting endings auto none = record {
 }
 
 pub layout_stores_nothing : (supply : Supply) (halting : Halting) (endings : ℕ → Ending) (end_rule : Option ℕ) (greatest : ℕ) (trees : Reader → TestTree (Option ℕ))
-    (auto : Auto) (begin : ℕ) → IsAuto auto → EachReader TestsWithin supply.eof greatest trees auto → supply.stored ≡ None
+    (auto : Auto) (begin : ℕ) → IsAuto auto → EachReader LeadsWithin supply.eof greatest trees auto → supply.stored ≡ None
     → AllByRecursion (λ code. list_any is_state code ≡ false) (supplied_layout supply halting endings end_rule trees auto begin)
 layout_stores_nothing supply halting endings end_rule greatest trees auto begin formed are none =
     each_from-all StoresNone begin (supplied_layout supply halting endings end_rule trees auto begin)

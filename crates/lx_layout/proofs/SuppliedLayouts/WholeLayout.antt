@@ -18,8 +18,8 @@ use Rattle.lx_layout.specs.Halting.{Halting, any_falls, ended_accept, ended_acce
 use Rattle.lx_layout.specs.Layout.{choices_from, end_block, end_size, ending_blocks, has_rule, lone_place, lone_size, own_block, restore_blocks}
 use Rattle.lx_layout.specs.SuppliedLayout.{at_end_blocks, at_end_size, end_of, end_rule_block, end_rule_part, entry_part, entry_part_size, entry_tests_size, entry_way, fall_block, fallback_part, first_restore, kept, lone_number, own_end, place_by, place_of, reader_blocks, rule_block, size_in, sized, state_end, state_size, state_to, state_way, states_begin, states_part, supplied_layout, turn_begin, with_blocks}
 use Rattle.lx_layout.specs.Supplies.{Reader, Supply, entry, state}
-use Rattle.lx_layout.specs.TestTrees.{Asked, TestTree}
-use Rattle.lx_layout.specs.TransitionClasses.{transition_classes}
+use Rattle.lx_dispatch.specs.TestTrees.{Asked, TestTree}
+use Rattle.lx_dispatch.specs.TransitionClasses.{transition_classes}
 use Rattle.lx_layout.proofs.BlockLayouts.FirstAccepts.{Chosen, rule_place-below, rule_place-within}
 use Rattle.lx_layout.proofs.SuppliedLayouts.EachBlock.{EachFrom, HoldsOfSorts, each-at_end, each-reader, each_from-append}
 use Rattle.lx_layout.proofs.SuppliedLayouts.EachLayout.{CanEnd, EndIsThere, EndsRight, IsWay, LeadsWithin, StateFits, StateHolds, StatesHold, each-with_blocks, end_within, some_class, states_each, to_within, way_within}

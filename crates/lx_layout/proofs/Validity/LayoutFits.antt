@@ -3,8 +3,8 @@ use Rattle.std.specs.Prelude.{◌≡◌, ℕ, ◌+◌, ◌-◌, ◌<◌, List, [
 use Rattle.std.proofs.lemmas.Option.{slice_get_within}
 use Rattle.std.specs.List.{AllByRecursion}
 use Rattle.lx_auto.specs.declared.automaton.Edge.{Edge}
-use Rattle.lx_layout.specs.TransitionClasses.{Stretch, before, first_class, has_class, same_place, split_of, stretches, class_place, classes_onto}
-use Rattle.lx_layout.proofs.BlockLayouts.ClassLists.{has_class-last, has_class-onto, class_found}
+use Rattle.lx_dispatch.specs.TransitionClasses.{Stretch, before, first_class, has_class, same_place, split_of, stretches, class_place, classes_onto}
+use Rattle.lx_dispatch.proofs.ClassLists.{has_class-last, has_class-onto, class_found}
 
 -- ---- transition classes
 

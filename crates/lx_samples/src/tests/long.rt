@@ -5,7 +5,9 @@ ghost use Rattle.lx_token.specs.Tokens.{tokens_of};
 
 use super::timing::micros_since;
 use lx_base::limits::SOURCE_LIMIT;
-use lx_base::{BlockKind, EmptyPolicy, Enc, FileName, Format, Job, Memory, Options, Pos, SurPolicy};
+use lx_base::{
+    BlockKind, EmptyPolicy, Enc, FileName, Format, Job, Memory, Options, Pos, SurPolicy,
+};
 use lx_parse::parse;
 use lx_split::split;
 use lx_token::{TokenList, tokens};

@@ -1,7 +1,7 @@
 use Rattle.std.proofs.Common.{◌≡◌, ◌++◌, arith, subst}
 use Rattle.std.specs.Result.{OnOk}
 use Rattle.lx_layout.specs.Plans.{unlabelled}
-use Rattle.lx_layout.specs.Views.{seen_tree}
+use Rattle.lx_dispatch.specs.Views.{seen_tree}
 use Rattle.lx_layout.proofs.Laying.Numbered.{entry-laid}
 use Rattle.lx_layout.proofs.Laying.Planned.{plan_tree, states_length}
 use Rattle.lx_layout.proofs.part_entries.append_tests_of.Goals as goal

@@ -6,8 +6,8 @@ use Rattle.lx_auto.specs.declared.automaton.State.{State}
 use Rattle.lx_layout.specs.LaidParts.{class_blocks, fall_at, rule_at}
 use Rattle.lx_layout.specs.Layout.{end_blocks}
 use Rattle.lx_layout.specs.Plans.{unlabelled}
-use Rattle.lx_layout.specs.Views.{seen_classes}
-use Rattle.lx_layout.specs.declared.transition_classes.TransitionClass.{TransitionClass}
+use Rattle.lx_dispatch.specs.Views.{seen_classes}
+use Rattle.lx_dispatch.specs.declared.classes.TransitionClass.{TransitionClass}
 use Rattle.lx_layout.proofs.BlockLayouts.BlockLoops.{LeadWithin-transition_classes}
 use Rattle.lx_layout.proofs.Laying.Planned.{plan_classes, plan_given, plan_planned}
 use Rattle.lx_layout.proofs.Laying.StateBlocks.{state_branches}

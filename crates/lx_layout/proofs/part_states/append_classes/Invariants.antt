@@ -2,7 +2,7 @@ use Rattle.std.proofs.Common.{◌≡◌, ◌++◌, drop, length}
 use Rattle.lx_auto.specs.Automaton.{LeadWithin}
 use Rattle.lx_layout.specs.LaidParts.{class_blocks}
 use Rattle.lx_layout.specs.Plans.{unlabelled}
-use Rattle.lx_layout.specs.Views.{seen_classes}
+use Rattle.lx_dispatch.specs.Views.{seen_classes}
 use Rattle.lx_layout.proofs.part_states.append_classes.Given as goal
 
 abbrev pub invariant-loop-class : goal.invariant-loop-class

@@ -1,7 +1,7 @@
 use Rattle.std.proofs.Common.{◌≡◌, ◌∙◌, ◌++◌, subst, sym}
 use Rattle.std.specs.Result.{OnOk}
 use Rattle.lx_layout.specs.Plans.{unlabelled}
-use Rattle.lx_layout.specs.Views.{seen_tree}
+use Rattle.lx_dispatch.specs.Views.{seen_tree}
 use Rattle.lx_layout.proofs.Laying.Numbered.{tests-laid}
 use Rattle.lx_layout.proofs.Laying.Planned.{plan_tree}
 use Rattle.lx_layout.proofs.part_states.append_tests_of.Goals as goal

@@ -17,7 +17,7 @@ append_scanner-requires-clause-fit c =
 
 pub append_scanner-requires-clause-like : goal.append_scanner-requires-clause-like
 append_scanner-requires-clause-like c =
-    front-at (seen_form c.args.form.now) c.args.front.now c.args.scanners.now c.loop-scanner.scanner-index c.scanner-item.result
+    front-at (seen_form c.args.form.now) c.args.sets.now.table.items c.args.front.now c.args.scanners.now c.loop-scanner.scanner-index c.scanner-item.result
     c.loop-scanner-test.true c.scanner-item.is c.requires.like c.requires.there c.requires.front
 
 pub loop-scanner-preserved : goal.loop-scanner-preserved
@@ -25,6 +25,7 @@ loop-scanner-preserved c =
     let form = seen_form c.args.form.now in
     let scanners = c.args.scanners.now in
     let scanner = c.scanner-item.result in
-    laid-more form (conds_of (seen_sources scanners)) scanners c.loop-scanner.scanner-index scanner c.loop-scanner-test.true c.scanner-item.is
-    form.first_state c.loop-scanner.next c.in_ok-next.next (greatest_unit form.enc) (given_of form (seen_source scanner)) c.loop-scanner.blocks.items
+    let table = c.args.sets.now.table.items in
+    laid-more form (conds_of (seen_sources scanners)) scanners c.loop-scanner.scanner-index scanner c.loop-scanner-test.true c.scanner-item.is table
+    form.first_state c.loop-scanner.next c.in_ok-next.next (greatest_unit form.enc) (given_of form table (seen_source scanner)) c.loop-scanner.blocks.items
     c.append_scanner.new.blocks.items refl refl c.loop-scanner.invariant c.in_ok-next.ensures.laid c.in_ok-next.ensures.asked

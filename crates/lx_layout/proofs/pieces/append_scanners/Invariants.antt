@@ -7,5 +7,5 @@ use Rattle.lx_layout.proofs.pieces.append_scanners.Given as goal
 
 abbrev pub invariant-loop-scanner : goal.invariant-loop-scanner
 invariant-loop-scanner l =
-    (parts : List Part) × ArePartsOf (seen_form l.form) (seen_sources (take l.scanner-index l.scanners)) parts
+    (parts : List Part) × ArePartsOf (seen_form l.form) l.sets.table.items (seen_sources (take l.scanner-index l.scanners)) parts
     × (l.blocks.items ≡ parts_blocks 0 l.form.first_state parts) × (l.next ≡ l.form.first_state + all_asked parts)

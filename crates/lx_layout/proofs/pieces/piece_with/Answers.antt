@@ -14,8 +14,8 @@ use Rattle.lx_layout.proofs.pieces.piece_with.Goals as goal
 pub returns-clause-fields : goal.returns-clause-fields
 returns-clause-fields c =
     let form = seen_form c.args.form in
-    let blocks = c.args.blocks.items in
-    let same = c.from_vec-2.ensures in
+    let blocks = c.args.laid.blocks.items in
+    let same = c.from_vec-3.ensures in
     record {
       number = refl;
       head = ap (λ (head : Head). Some head) (c.head_of-head.ensures ∙ ap (λ (l : List CodeBlock). head_of form l) (c.deref-3.ensures.value ∙ sym same));
@@ -23,12 +23,12 @@ returns-clause-fields c =
       unit = c.unit_bytes.ensures;
       eof = refl;
       declares = declares-not c.args.form.stores;
-      table = c.new.ensures;
+      table = λ two. c.from_vec.ensures ∙ c.requires.none two;
       ctx = c.has_context-ctx.ensures
           ∙ ap (λ (l : List CodeBlock). form.context && list_any has_register_one (all_statements l)) (c.deref-4.ensures.value ∙ sym same);
       switches = c.switch_of-states.ensures.has;
       conds_are = ap (λ (l : List CondCase). map (λ (case : CondCase). case.cond) l)
-          (c.from_vec.ensures ∙ c.in_ok-conds.ensures ∙ ap (λ (l : List CodeBlock). cond_cases 0 l) c.deref-2.ensures.value)
+          (c.from_vec-2.ensures ∙ c.in_ok-conds.ensures ∙ ap (λ (l : List CodeBlock). cond_cases 0 l) c.deref-2.ensures.value)
           ∙ cases-labels 0 blocks;
       line = refl;
     }

@@ -4,9 +4,10 @@ use Rattle.lx_ccode.specs.declared.piece.CodeBlock.{CodeBlock}
 use Rattle.lx_ccode.specs.declared.piece.Stmt.{Stmt}
 use Rattle.lx_layout.specs.SuppliedLayout.{with_blocks}
 use Rattle.lx_layout.specs.Plans.{unlabelled}
-use Rattle.lx_layout.specs.TestTrees.{TestTree, at_most, fork, inner_blocks, inner_size, tree_code}
-use Rattle.lx_layout.specs.Views.{seen_tree}
-use Rattle.lx_layout.proofs.BlockLayouts.TreeLoops.{seen_tree-fork}
+use Rattle.lx_dispatch.specs.TestTrees.{TestTree, at_most, fork}
+use Rattle.lx_layout.specs.TreeCodes.{inner_blocks, inner_size, tree_code}
+use Rattle.lx_dispatch.specs.Views.{seen_tree}
+use Rattle.lx_dispatch.proofs.TreeLoops.{seen_tree-fork}
 use Rattle.lx_layout.proofs.Laying.TreeWays.{lower-more}
 use Rattle.lx_layout.specs.Ways.{way_of}
 use Rattle.lx_layout.proofs.readers.+append_lower.Goals as goal

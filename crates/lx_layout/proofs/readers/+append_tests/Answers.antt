@@ -1,10 +1,11 @@
 use Rattle.std.proofs.Common.{◌≡◌, ℕ, ◌++◌, ap, ap₂, subst, sym, ◌∙◌}
 use Rattle.std.specs.Result.{OnOk}
 use Rattle.lx_layout.specs.SuppliedLayout.{with_blocks}
-use Rattle.lx_layout.specs.TestTrees.{TestTree, at_most, fork, tree_code}
-use Rattle.lx_layout.specs.Views.{seen_tree}
+use Rattle.lx_dispatch.specs.TestTrees.{TestTree, at_most, fork}
+use Rattle.lx_layout.specs.TreeCodes.{tree_code}
+use Rattle.lx_dispatch.specs.Views.{seen_tree}
 use Rattle.lx_layout.specs.Ways.{way_of}
-use Rattle.lx_layout.proofs.BlockLayouts.TreeLoops.{seen_tree-fork}
+use Rattle.lx_dispatch.proofs.TreeLoops.{seen_tree-fork}
 use Rattle.lx_layout.proofs.Laying.TreeWays.{tests-more}
 use Rattle.lx_layout.proofs.readers.+append_tests.Goals as goal
 

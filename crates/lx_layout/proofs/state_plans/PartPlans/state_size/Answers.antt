@@ -3,9 +3,9 @@ use Rattle.std.proofs.lemmas.Bool.{eqb-false}
 use Rattle.std.proofs.lemmas.Result.{IfOk-weaker}
 use Rattle.lx_auto.specs.declared.automaton.Edge.{Edge}
 use Rattle.lx_layout.specs.Layout.{end_size}
-use Rattle.lx_layout.specs.TransitionClasses.{transition_classes}
+use Rattle.lx_dispatch.specs.TransitionClasses.{transition_classes}
 use Rattle.lx_auto.specs.declared.automaton.State.{State}
-use Rattle.lx_layout.specs.declared.transition_classes.TransitionClass.{TransitionClass}
+use Rattle.lx_dispatch.specs.declared.classes.TransitionClass.{TransitionClass}
 use Rattle.lx_layout.proofs.Laying.Planned.{plan_count, plan_given, size_of-none, size_of-some}
 use Rattle.lx_layout.proofs.state_plans.PartPlans.state_size.Goals as goal
 

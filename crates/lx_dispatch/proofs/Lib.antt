@@ -1,0 +1,16 @@
+pub mod ApartLoops
+pub mod ApartOrder
+pub mod Cases
+pub mod ClassLists
+pub mod EqualClasses
+pub mod FirstWays
+pub mod LeftLoops
+pub mod LeftWays
+pub mod OpsAlike
+pub mod SplitLoops
+pub mod SplitTrees
+pub mod Splits
+pub mod SwitchTrees
+pub mod Tables
+pub mod TreeLoops
+pub mod UnitMarks

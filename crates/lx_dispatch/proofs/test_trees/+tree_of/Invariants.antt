@@ -1,0 +1,4 @@
+use Rattle.lx_dispatch.proofs.test_trees.+tree_of.Given as goal
+
+abbrev pub decreases-tree_of : goal.decreases-tree_of
+decreases-tree_of l = l.left

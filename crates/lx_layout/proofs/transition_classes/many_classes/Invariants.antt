@@ -1,7 +1,0 @@
-use Rattle.std.proofs.Common.{◌≡◌, drop}
-use Rattle.lx_layout.specs.Views.{seen_classes}
-use Rattle.lx_layout.specs.TransitionClasses.{transition_classes, classes_onto}
-use Rattle.lx_layout.proofs.transition_classes.many_classes.Given as goal
-
-abbrev pub invariant-loop-edge : goal.invariant-loop-edge
-invariant-loop-edge l = classes_onto (seen_classes l.classes.keys) (drop l.edge-index l.edges) ≡ transition_classes l.edges
