@@ -10,6 +10,7 @@ use std::process::ExitCode;
 mod cases;
 mod escapes;
 mod format;
+mod formats;
 mod lines;
 mod outcome;
 mod scene;

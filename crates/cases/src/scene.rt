@@ -1,13 +1,15 @@
 //! The state of a case between two orders.
 
 use crate::cases::{Alteration, Case, Extent, Item, Order, Outside, Place};
+use crate::formats::{extent_of_emitted, is_compiling, is_covering, is_of_both, words_of};
 use crate::outcome::{Difference, difference};
 use crate::seen::Seen;
 use crate::stage::{Failing, NONE, Stage};
 use case_reports::CaseError;
 use std::alloc::{AllocError, Global};
 
-/// The files, what the last run left, its status where this was not compared yet, and the number of its line, which is 0 before a run.
+/// The files, what the last run left, its status where this was not compared yet, the number of its line, which is 0 before a run, whether
+/// compilations are tried in format 3, and whether the last run was one that emitted text so.
 struct Scene {
     files: Vec<Seen>,
     out: Seen,
@@ -15,6 +17,8 @@ struct Scene {
     status: Option<u8>,
     failing: Failing,
     line: usize,
+    in_three: bool,
+    emitted: bool,
 }
 
 impl Drop for Scene {
@@ -26,16 +30,35 @@ impl Drop for Scene {
             status: _,
             failing: _,
             line: _,
+            in_three: _,
+            emitted: _,
         } = self;
     }
 }
 
-/// How a case differs from what it wants, behind the number of the line of the run that differs.
+/// How a case differs from what it wants, behind the number of the line of the run that differs: as it stands, or in format 3.
 pub fn difference_of_case(
     alloc: Global,
     case: &Case,
 ) -> Result<Option<(usize, String)>, CaseError> {
-    let mut scene = Scene::new(alloc)?;
+    if let Some(difference) = difference_in(alloc, case, false)? {
+        return Ok(Some(difference));
+    }
+    if !is_of_both(case) {
+        return Ok(None);
+    }
+    match difference_in(alloc, case, true)? {
+        Some((line, text)) => Ok(Some((line, format!(in alloc; "in format 3: {text}")?))),
+        None => Ok(None),
+    }
+}
+
+fn difference_in(
+    alloc: Global,
+    case: &Case,
+    in_three: bool,
+) -> Result<Option<(usize, String)>, CaseError> {
+    let mut scene = Scene::new(alloc, in_three)?;
     for item in case.items.iter() {
         if let Some(difference) = scene.step(alloc, item)? {
             return Ok(Some((scene.line, difference)));
@@ -51,7 +74,7 @@ pub fn difference_of_case(
 }
 
 impl Scene {
-    fn new(alloc: Global) -> Result<Scene, AllocError> {
+    fn new(alloc: Global, in_three: bool) -> Result<Scene, AllocError> {
         Ok(Scene {
             files: Vec::new(alloc),
             out: Seen::new(alloc, "standard output", None)?,
@@ -59,6 +82,8 @@ impl Scene {
             status: None,
             failing: NONE,
             line: 0,
+            in_three,
+            emitted: false,
         })
     }
 
@@ -132,7 +157,10 @@ impl Scene {
     fn run(&mut self, alloc: Global, words: &[String]) -> Result<(), CaseError> {
         self.note_words(alloc, words)?;
         let mut stage = self.stage(alloc)?;
-        self.status = Some(stage.run(alloc, words));
+        let is_third = self.in_three && is_compiling(words);
+        let asked = words_of(alloc, is_third, words)?;
+        self.status = Some(stage.run(alloc, asked.as_slice()));
+        self.emitted = is_third && !is_covering(words);
         self.failing = NONE;
         self.look(alloc, &mut stage)
     }
@@ -203,10 +231,15 @@ impl Scene {
         if self.line == 0 {
             return Err(CaseError::Malformed("nothing is left without a run"));
         }
+        let at_output = if self.emitted {
+            extent_of_emitted(extent)
+        } else {
+            extent
+        };
         let difference = match place {
-            Place::Out => self.out.compare(alloc, extent, content)?,
+            Place::Out => self.out.compare(alloc, at_output, content)?,
             Place::Err => self.err.compare(alloc, extent, content)?,
-            Place::File(name) => self.compare_file(alloc, name.as_str(), extent, content)?,
+            Place::File(name) => self.compare_file(alloc, name.as_str(), at_output, content)?,
         };
         Ok(difference)
     }

@@ -5,6 +5,7 @@ pub mod BeginSections
 pub mod Behind
 pub mod BodyTails
 pub mod Bounds
+pub mod Drops
 pub mod Greatest
 pub mod Jumps
 pub mod LabelMarks

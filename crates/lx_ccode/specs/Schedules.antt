@@ -1,5 +1,5 @@
 -- Schedules: how a buffer is filled while a match runs (re2c's manual, "Storable state" and "Handling the end of input").
-use Rattle.std.specs.Prelude.{◌≡◌, ℕ, ◌+◌, ◌≤◌, List, [], ◌∷◌, length, Bool, true, false}
+use Rattle.std.specs.Prelude.{◌≡◌, ℕ, ◌+◌, ◌≤◌, List, [], ◌∷◌, map, length, Bool, true, false}
 use Rattle.std.specs.List.{list_any}
 use Rattle.lx_ccode.specs.declared.piece.Piece.{Piece}
 use Rattle.lx_ccode.specs.Statements.{all_statements, is_refill, is_state}
@@ -15,6 +15,20 @@ pub record Buffer : Type 0 where
   pub base : ℕ
   pub limit : ℕ
   pub closed : Bool
+
+-- the refill, without a drop
+abbrev pub undropped : Refill → Refill
+undropped (more dropped added) = more 0 added
+undropped no_more = no_more
+
+-- the answer, without drops
+abbrev pub undropped_answer : Answer → Answer
+undropped_answer (refilled refill) = refilled (undropped refill)
+undropped_answer (left refills) = left (map undropped refills)
+
+-- the schedule, without drops
+abbrev pub without_drops : Schedule → Schedule
+without_drops schedule = record schedule { answers = map undropped_answer schedule.answers }
 
 -- the buffer after a refill
 abbrev pub after_refill : Buffer → Refill → Buffer

@@ -184,9 +184,13 @@ feeds (letter ∷ text) = if letter == 10 then suc (feeds text) else feeds text
 
 -- the line where the next text begins, when this text begins in a line of the file: C's numbers of lines stop before 2^31, and these
 -- at the greatest of 32 bits
+abbrev pub line_after : (line : ℕ) → (text : List ℕ) → ℕ
+line_after line text = min (line + feeds text) 4294967295
+
+-- the same, where lines are counted
 abbrev pub line_behind : (line : Option ℕ) → (text : List ℕ) → Option ℕ
 line_behind None text = None
-line_behind (Some line) text = Some (min (line + feeds text) 4294967295)
+line_behind (Some line) text = Some (line_after line text)
 
 -- a line of the file, where lines are counted
 abbrev pub mark_of : (file : List ℕ) → (line : Option ℕ) → Option LineMark

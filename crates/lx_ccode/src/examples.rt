@@ -94,6 +94,7 @@ pub fn schedules_of_examples()
     ensures whole { IsLegal context_example 3 0 (record { first = 3; answers = [] }) }
     ensures not_whole { IsLegal context_example 3 0 (record { first = 2; answers = [] }) → ⊥ }
     ensures left_and_closed { IsLegal stored_example 3 1 (record { first = 1; answers = left (more 1 1 ∷ []) ∷ refilled (more 0 1) ∷ left (no_more ∷ []) ∷ refilled no_more ∷ [] }) }
+    ensures dropped_two { IsLegal stored_example 4 2 (record { first = 2; answers = refilled (more 2 1) ∷ [] }) }
     ensures dropped_too_many { IsLegal stored_example 3 1 (record { first = 1; answers = refilled (more 2 1) ∷ [] }) → ⊥ }
     ensures more_after_no_more { IsLegal stored_example 3 1 (record { first = 3; answers = refilled no_more ∷ left (no_more ∷ []) ∷ [] }) → ⊥ }
     ensures too_early { IsLegal stored_example 3 1 (record { first = 1; answers = refilled no_more ∷ [] }) → ⊥ }

@@ -13,7 +13,7 @@ ghost use Rattle.lx_ccode.specs.Front.{BeginsWithPiece, BeginsWithPieceAt, IsPla
 ghost use Rattle.lx_ccode.specs.Machine.{Answer, Machine, Outcome, code_at, ends, goes_on, step, stored_block, units_of_answers};
 ghost use Rattle.lx_ccode.specs.Reading.{piece_at};
 ghost use Rattle.lx_ccode.specs.Runs.{Ended, IsRun, ended, entry_block, fresh_machine, run_of};
-ghost use Rattle.lx_ccode.specs.Schedules.{Schedule};
+ghost use Rattle.lx_ccode.specs.Schedules.{IsLegal, Schedule, without_drops};
 ghost use Rattle.lx_ccode.specs.States.{stores};
 ghost use Rattle.lx_ccode.specs.Statements.{all_statements, is_refill};
 ghost use Rattle.lx_ccode.specs.Stuck.{CannotDo, HasWayBack, IsStuck};
@@ -83,6 +83,13 @@ pub fn traces_go_on()
     ensures next { (piece : Piece) (stream : List ℕ) (steps more : ℕ) (code : List Stmt) (machine : Machine) (answers : List Answer) → (trace piece stream (steps + more) code machine answers).next ≡ (trace_on piece stream more (trace piece stream steps code machine answers).next).next }
     ensures counted { (piece : Piece) (stream : List ℕ) (steps : ℕ) (code next : List Stmt) (machine after : Machine) (answers others : List Answer) → (trace piece stream steps code machine answers).next ≡ goes_on next after others → length (trace piece stream steps code machine answers).made ≡ steps }
     ensures one_end { (piece : Piece) (stream : List ℕ) (steps others : ℕ) (code : List Stmt) (machine after last : Machine) (answers : List Answer) (outcome other : Outcome) → (trace piece stream steps code machine answers).next ≡ ends outcome after → (trace piece stream others code machine answers).next ≡ ends other last → ended outcome after ≡ ended other last }
+{}
+
+/// Drops do not matter: under a schedule and under the same one without drops a match makes the same run, and where the one is legal so is
+/// the other. A buffer may keep all units of a stream.
+pub fn drops_do_not_matter()
+    ensures run { (piece : Piece) (stream : List ℕ) (start : ℕ) (cond : List ℕ) (schedule : Schedule) → run_of piece stream start cond (without_drops schedule) ≡ run_of piece stream start cond schedule }
+    ensures legal { (piece : Piece) (units start : ℕ) (schedule : Schedule) → IsLegal piece units start schedule → IsLegal piece units start (without_drops schedule) }
 {}
 
 /// A run ends between its start and the last unit that its schedule adds to the buffer.

@@ -14,7 +14,7 @@ pub mod name_sets;
 mod numerals;
 mod openings;
 pub mod piece;
-mod places;
+pub mod places;
 pub mod printing;
 mod sections;
 
@@ -27,4 +27,5 @@ pub use labels::block_front;
 pub use name_sets::NameSet;
 pub use numerals::hexadecimal;
 pub use piece::{CodeBlock, CondCase, Head, LineMark, Mode, Piece, StateCase, Stmt, SwitchCase};
+pub use places::line_after;
 pub use printing::{append_piece, count_statements, print, statements};

@@ -1,6 +1,6 @@
 //! Counts the lines of a text, so that a `#line` can tell where in its file a text stands.
 ghost use Rattle.std.specs.Prelude.{◌≡◌, ◌+◌, min, IfSome};
-ghost use Rattle.lx_ccode.specs.Text.{feeds, line_behind, line_of, mark_of};
+ghost use Rattle.lx_ccode.specs.Text.{feeds, line_after, line_behind, line_of, mark_of};
 ghost use Rattle.lx_ccode.specs.Wording.{file_of};
 
 use crate::piece::LineMark;
@@ -32,13 +32,20 @@ fn shortened(number: usize) -> u32
     }
 }
 
+/// The line where the next text begins, where this text begins in a line: lines are counted from 1, up to 4,294,967,295.
+pub fn line_after(line: u32, text: &[u8]) -> u32
+    ensures { result ≡ line_after line text.now }
+{
+    line.saturating_add(shortened(feeds(text)))
+}
+
 /// The line where the next text begins, where this text begins in a line; nothing where lines are not counted.
 pub(crate) fn line_behind(line: Option<u32>, text: &[u8]) -> Option<u32>
     ensures { result ≡ line_behind line text.now }
 {
     match line {
         None => None,
-        Some(line) => Some(line.saturating_add(shortened(feeds(text)))),
+        Some(line) => Some(line_after(line, text)),
     }
 }
 

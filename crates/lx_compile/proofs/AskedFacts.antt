@@ -5,10 +5,10 @@ use Rattle.std.proofs.lemmas.List.Folds.{list_any_at}
 use Rattle.std.specs.List.{list_any}
 use Rattle.lx_base.specs.declared.places.Pos.{Pos}
 use Rattle.lx_ccode.specs.declared.piece.LineMark.{LineMark}
-use Rattle.lx_compile.specs.Making.{AreAsked, CanAnswer, asks}
+use Rattle.lx_compile.specs.Making.{AreAsked, CanAnswer, CanTell, asks}
 use Rattle.lx_compile.specs.declared.facts.Facts.{Facts}
 use Rattle.lx_compile.specs.declared.made.Made.{Made}
-use Rattle.lx_compile.specs.declared.made.Made.TheVariants.{Bare}
+use Rattle.lx_compile.specs.declared.made.Made.TheVariants.{Outside, Scanners, Bare}
 use Rattle.lx_compile.specs.declared.parts.Directive.{Directive}
 use Rattle.lx_compile.specs.declared.parts.Directive.TheVariants as directive
 
@@ -32,8 +32,15 @@ asks-at made place one within is none = by (asks one) refl
     by true does = absurd (false≢true (sym none ∙ list_any_at asks made place one within (sym (ap asks is) ∙ does)))
 
 -- a directive among all that is made
-pub CanAnswer-at : (facts : Option Facts) (made : List Made) (place : ℕ) (one : Made) (at : Pos) (line : Option LineMark) (asked : Directive)
+CanAnswer-at : (facts : Option Facts) (made : List Made) (place : ℕ) (one : Made) (at : Pos) (line : Option LineMark) (asked : Directive)
     → place < length made → one ≡ get_or made place one → one ≡ Bare at line asked → AreAsked facts made → CanAnswer facts made asked
 CanAnswer-at None made place one at line asked within is bare none =
     asks-nothing at line asked (sym (ap asks bare) ∙ asks-at made place one within is none)
 CanAnswer-at (Some facts) made place one at line asked within is bare are = are
+
+-- what is made, among all of it
+pub CanTell-at : (facts : Option Facts) (made : List Made) (place : ℕ) (one : Made) → place < length made → one ≡ get_or made place one
+    → AreAsked facts made → CanTell facts made one
+CanTell-at facts made place (Outside text) within is are = tt
+CanTell-at facts made place (Scanners piece checks warnings cover) within is are = tt
+CanTell-at facts made place (Bare at line asked) within is are = CanAnswer-at facts made place (Bare at line asked) at line asked within is refl are

@@ -20,6 +20,7 @@ use Rattle.lx_compile.specs.Emittable.{IsNearPiece}
 use Rattle.lx_compile.specs.Facts.{directives_fault}
 use Rattle.lx_compile.specs.FirstFault.{IsFaultOfBlocks, IsFaultOfPieces, IsFirstFault, StopsBehind, StopsWith, setting_of}
 use Rattle.lx_compile.specs.Made.{AreMade}
+use Rattle.lx_compile.specs.Options.{out_name}
 use Rattle.lx_compile.specs.Output.{IsGiven, IsGivenOf, IsOutput, IsOutputOf, given_text}
 use Rattle.lx_compile.specs.Parts.{AreParts, IsScanningFault, StopsAmong, StopsByScanners}
 use Rattle.lx_compile.specs.Writing.{StopsByDirectives, output_text}
@@ -45,7 +46,7 @@ module _ (options : Options) (names : List (List ℕ)) (pieces : List SourcePiec
       StopsBehind-directives split_stop.Memory stops = tt
       StopsBehind-directives (split_stop.Fault fault) stops = (made, inr (parts, last, are, inr (none, is, sym stops)))
 
-      pub IsGivenOf-parts : (output given : List ℕ) → output ≡ output_text (config_of last.settings).names made
+      pub IsGivenOf-parts : (output given : List ℕ) → output ≡ output_text (config_of last.settings).names (out_name options) made
           → directives_fault (config_of last.settings).names made ≡ None → given ≡ given_text options made output
           → IsFaultOfBlocks options names pieces made None × IsGivenOf options names pieces made given
       IsGivenOf-parts output given text no_fault given_is = (

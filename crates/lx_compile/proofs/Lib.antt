@@ -12,6 +12,7 @@ pub mod HistoryBounds
 pub mod ItemRuns
 pub mod LeftmostToo
 pub mod LineRuns
+pub mod LinesAfter
 pub mod ListedRegisters
 pub mod MadeRuns
 pub mod NoRegisters
@@ -22,6 +23,7 @@ pub mod OneSyntax
 pub mod OutputCuts
 pub mod OutsideTexts
 pub mod PieceActions
+pub mod PlacedPieces
 pub mod RenumberedChecks
 pub mod ScannerRuns
 pub mod ScanningRuns

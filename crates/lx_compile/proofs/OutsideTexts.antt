@@ -19,6 +19,7 @@ use Rattle.lx_split.specs.declared.includes.IncludeBlock.{IncludeBlock}
 use Rattle.lx_split.specs.declared.pieces.SourcePiece.{SourcePiece}
 use Rattle.lx_compile.specs.FirstFault.{setting_of}
 use Rattle.lx_compile.specs.Made.{AreMade, Setting}
+use Rattle.lx_compile.specs.Options.{out_name}
 use Rattle.lx_compile.specs.Output.{IsOutput, IsOutputOf}
 use Rattle.lx_compile.specs.Parts.{AreParts}
 use Rattle.lx_compile.specs.Writing.{output_text}
@@ -71,10 +72,10 @@ module _ (options : Options) (source : List ℕ) (none : from_opener options sou
       (pieces_within options (file_start 0) (length {A = List ℕ} []) 0 source)
       (λ pieces are. pieces_within-outside (file_start 0) (length {A = List ℕ} []) 0 pieces are) pieces are
 
-module _ (options : Options) (setting : Setting) (names : Spellings) (last : Environment) where
+module _ (options : Options) (setting : Setting) (names : Spellings) (out : List ℕ) (last : Environment) where
   -- what is made of outside text is that text
   made-outside : (source : List ℕ) (parts : List Part) (all : List Made) → AreParts options first_environment (outside source) parts last
-      → AreMade setting 1 0 parts all → output_text names all ≡ source
+      → AreMade setting 1 0 parts all → output_text names out all ≡ source
   made-outside [] [] [] are made_are = refl
   made-outside [] [] (one ∷ all) are made_are = absurd made_are
   made-outside [] (part ∷ parts) all are made_are = absurd are
@@ -90,7 +91,9 @@ module _ (options : Options) (setting : Setting) (names : Spellings) (last : Env
 output_of-outside : (options : Options) (names : List (List ℕ)) (source output : List ℕ) (all : List Made)
     → IsOutputOf options names (outside source) all output → output ≡ source
 output_of-outside options names source output all is =
-    is.text ∙ made-outside options (setting_of options names is.parts) (config_of is.last.settings).names is.last source is.parts all is.parts_are is.made_are
+    is.text
+    ∙ made-outside options (setting_of options names is.parts) (config_of is.last.settings).names (out_name options) is.last source
+    is.parts all is.parts_are is.made_are
 
 pub IsOutput-outside : (options : Options) (seen : List HeldFile) (main source output : List ℕ) (all : List Made) → bytes_of seen main ≡ Some source
     → from_opener options source ≡ [] → IsOutput options seen main all output → output ≡ source

@@ -57,3 +57,8 @@ AreAsked (Some facts) made = AreFacts facts made
 abbrev pub CanAnswer : Option Facts → List Made → Directive → Type 0
 CanAnswer None made asked = asked ≡ directive.Nothing
 CanAnswer (Some facts) made asked = AreFacts facts made
+
+-- so can what is made, if it is a directive
+abbrev pub CanTell : Option Facts → List Made → Made → Type 0
+CanTell facts made (Bare at line asked) = CanAnswer facts made asked
+CanTell facts made other = Unit {0}

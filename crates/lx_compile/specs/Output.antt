@@ -10,7 +10,7 @@ use Rattle.lx_compile.specs.Covering.{cover_of}
 use Rattle.lx_compile.specs.Facts.{directives_fault}
 use Rattle.lx_compile.specs.FirstFault.{setting_of}
 use Rattle.lx_compile.specs.Made.{AreMade}
-use Rattle.lx_compile.specs.Options.{asks_for_cover}
+use Rattle.lx_compile.specs.Options.{asks_for_cover, out_name}
 use Rattle.lx_compile.specs.Parts.{AreParts}
 use Rattle.lx_compile.specs.Writing.{output_text}
 use Rattle.lx_compile.specs.declared.made.Made.{Made}
@@ -26,7 +26,7 @@ pub record IsOutputOf (options : Options) (names : List (List ℕ)) (pieces : Li
   pub parts_are : AreParts options first_environment pieces parts last
   pub made_are : AreMade (setting_of options names parts) 1 0 parts made
   pub no_fault : directives_fault (config_of last.settings).names made ≡ None
-  pub text : output ≡ output_text (config_of last.settings).names made
+  pub text : output ≡ output_text (config_of last.settings).names (out_name options) made
 
 -- the output of a source over these files, where this is made of it: that of its pieces with those of included files put in
 pub record IsOutput (options : Options) (seen : List HeldFile) (main : List ℕ) (made : List Made) (output : List ℕ) : Type 0 where

@@ -7,6 +7,7 @@ ghost use Rattle.lx_files.specs.declared.files.HeldFile.{HeldFile};
 ghost use Rattle.lx_split.specs.Includes.{expansion};
 ghost use Rattle.lx_compile.specs.Emittable.{IsNearPiece};
 ghost use Rattle.lx_compile.specs.FirstFault.{IsFaultOfBlocks, IsFirstFault, StopsBehind, StopsWith};
+ghost use Rattle.lx_compile.specs.Options.{out_name};
 ghost use Rattle.lx_compile.specs.Output.{IsGiven, IsGivenOf, given_text};
 ghost use Rattle.lx_compile.specs.Warnings.{told_warnings};
 ghost use Rattle.lx_compile.specs.declared.made.Made.{Made as made_type};
@@ -17,7 +18,7 @@ use crate::making::{Frame, make};
 use crate::walk::{Resolution, resolve_blocks, switch_themselves};
 use crate::warned::{PlacedWarning, told_warnings};
 use crate::writing::write;
-use lx_base::{FileNames, Memory, Options, Sequence, Stop};
+use lx_base::{FileNames, Job, Memory, Options, Sequence, Stop};
 use lx_files::Files;
 use lx_shared::SharedText;
 use lx_split::{ExpandStop, Pieces, expand};
@@ -65,6 +66,16 @@ fn shared_names(alloc: Global, names: &FileNames) -> Result<Vec<SharedText>, Mem
     Ok(shared)
 }
 
+/// The name of the output, as its lines tell it: that of its file, or `<stdout>`.
+fn out_name(alloc: Global, options: &Options) -> Result<SharedText, Memory>
+    ensures { IfOk result (λ name. name ≡ out_name options.now) }
+{
+    match &options.job {
+        Job::Compile { to: Some(name), .. } => SharedText::copy_of(alloc, name.as_str().as_bytes()),
+        _ => SharedText::copy_of(alloc, b"<stdout>"),
+    }
+}
+
 /// What is given of the pieces of a source, and its warnings, where files of these names were met.
 fn output_of(
     alloc: Global,
@@ -88,7 +99,8 @@ fn output_of(
         own_switch,
     };
     let made = make(alloc, &frame, resolution.parts)?;
-    let whole = write(alloc, &resolution.names, made.as_slice())?;
+    let out = out_name(alloc, options)?;
+    let whole = write(alloc, &resolution.names, &out, made.as_slice())?;
     let output = given_text(alloc, options, made.as_slice(), whole)?;
     let warnings = told_warnings(alloc, options, made)?;
     Ok(Compiled { output, warnings })

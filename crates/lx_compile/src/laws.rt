@@ -1,5 +1,5 @@
 //! What holds of the faults and the outputs of all sources: each law is the contract of a function with an empty body.
-ghost use Rattle.std.specs.Prelude.{◌≡◌, ℕ, List, [], ◌∷◌, ◌++◌, Option, Some, IfSome};
+ghost use Rattle.std.specs.Prelude.{◌≡◌, ℕ, true, List, [], ◌∷◌, ◌++◌, Option, Some, IfSome};
 ghost use Rattle.lx_base.specs.Message.{IsPlaced};
 ghost use Rattle.lx_base.specs.declared.faults.Fault.{Fault};
 ghost use Rattle.lx_base.specs.declared.settings.Options.{Options};
@@ -10,6 +10,7 @@ ghost use Rattle.lx_split.specs.Includes.{expansion};
 ghost use Rattle.lx_split.specs.Openers.{from_opener};
 ghost use Rattle.lx_compile.specs.Cut.{IsFound, output_parts};
 ghost use Rattle.lx_compile.specs.FirstFault.{AreMadeOf, IsFirstFault};
+ghost use Rattle.lx_compile.specs.Options.{names_output, out_name};
 ghost use Rattle.lx_compile.specs.Output.{IsOutput, last_names};
 ghost use Rattle.lx_compile.specs.declared.made.Made.{Made};
 
@@ -40,19 +41,21 @@ pub fn outside_text_stays()
 /// The output of a source is cut at its marks into the source's texts outside of blocks and one piece for each block, in order,
 /// where no begin mark stands but at the front of a piece. So what is read back at a mark is what was emitted there: by the
 /// laws of `lx_creader` there is no other cut, and the first begin mark that is asked for is that of the first such piece. The names of the
-/// source and of the folder for includes must hold no `/*!`, as words of a command line do not.
+/// source and of the folder for includes must hold no `/*!`, as words of a command line do not, and so must that of the output where its
+/// own text names it.
 pub fn outputs_are_cut_as_their_sources()
     ensures { (options : Options) (seen : List HeldFile) (main output : List ℕ) (made : List Made) → HasNoOpener main →
-        IfSome options.dir HasNoOpener → (is : IsOutput options seen main made output) →
-        AreCut (output_parts (last_names is) made 1 made)
-        × (output ≡ parts_text (output_parts (last_names is) made 1 made)) }
+        IfSome options.dir HasNoOpener → (names_output options ≡ true → HasNoOpener (out_name options)) →
+        (is : IsOutput options seen main made output) →
+        AreCut (output_parts (last_names is) (out_name options) made 1 1 made)
+        × (output ≡ parts_text (output_parts (last_names is) (out_name options) made 1 1 made)) }
 {}
 
 /// The piece of each block is found in an output by its number: its text stands where the first begin mark of that number does.
 /// Without a number the piece of the first block with a scanner is found.
 pub fn emitted_pieces_are_found()
     ensures { (options : Options) (seen : List HeldFile) (main output : List ℕ) (made : List Made) → HasNoOpener main →
-        IfSome options.dir HasNoOpener → (is : IsOutput options seen main made output) →
-        (earlier : List Made) (one : Made) (more : List Made) → made ≡ earlier ++ one ∷ more →
-        IsFound (last_names is) made earlier one output }
+        IfSome options.dir HasNoOpener → (names_output options ≡ true → HasNoOpener (out_name options)) →
+        (is : IsOutput options seen main made output) → (earlier : List Made) (one : Made) (more : List Made) → made ≡ earlier ++ one ∷ more →
+        IsFound (last_names is) (out_name options) made earlier one output }
 {}

@@ -1,5 +1,6 @@
 -- Each edge's class is found among the classes of edges, and leads as the edge does.
 use Rattle.std.specs.Prelude.{◌≡◌, ◌<◌, ◌≤◌, ℕ, suc, length, List, [], ◌∷◌, ◌++◌, ◌+◌, Some, Bool, true, false, nat_eq, ◌&&◌, refl, slice_get, drop, if◌then◌else◌}
+use Rattle.std.specs.List.{AllByRecursion}
 use Rattle.std.proofs.Common.{◌∙◌, sym, ap, ap₂, subst, arith, get_or, eqb-true, eq-eqb, true≢false}
 use Rattle.std.proofs.lemmas.List.{drop_more}
 use Rattle.lx_auto.specs.Automaton.{edge_on, has_unit}
@@ -162,3 +163,24 @@ class_place-onto (next ∷ edges) more first edge e = by (has_class (first ∷ m
 
 pub class_place-first : (edge : Edge) (edges : List Edge) → class_place (transition_classes (edge ∷ edges)) edge ≡ 0
 class_place-first edge edges = class_place-onto edges [] edge edge (same_class-itself edge)
+
+-- so is that of each of the edges, and its place is one of theirs
+pub has_class-all : (edges found : List Edge) → AllByRecursion (λ edge. has_class (classes_onto found edges) edge ≡ true) edges
+has_class-all [] found = tt
+has_class-all (next ∷ edges) found = (
+  has_class-onto edges (if has_class found next then found else found ++ next ∷ []) next (own (has_class found next) refl),
+  has_class-all edges (if has_class found next then found else found ++ next ∷ []),
+)
+  where
+    own : (t : Bool) → has_class found next ≡ t → has_class (if t then found else found ++ next ∷ []) next ≡ true
+    own true e = e
+    own false e = has_class-last found next
+
+pub class_place-found : (classes : List Edge) (edge : Edge) → has_class classes edge ≡ true → class_place classes edge < length classes
+class_place-found [] edge e = absurd (true≢false (sym e))
+class_place-found (class ∷ classes) edge e = by (same_class class edge) e (λ h. class_place-found classes edge h)
+  where
+    by : (t : Bool) → (if t then true else has_class classes edge) ≡ true → (has_class classes edge ≡ true → class_place classes edge < length classes)
+        → (if t then 0 else suc (class_place classes edge)) < suc (length classes)
+    by true e again = omega arith
+    by false e again = let h = again e in omega (arith, h)

@@ -99,7 +99,7 @@ module _ (decided : ℕ → Bool) (top : ℕ) where
       by false =
           ap (λ (t : Bool). if t then stretch.class else class_on split.tests split.last unit) (lt-leb unit stretch.greatest more) ∙ leads
 
-  leads-left : (low : ℕ) (list : List Stretch) (last : Option ℕ) (from unit : ℕ) → Ascend from list → low ≤ unit → unit ≤ top → decided unit ≡ false
+  pub leads-left : (low : ℕ) (list : List Stretch) (last : Option ℕ) (from unit : ℕ) → Ascend from list → low ≤ unit → unit ≤ top → decided unit ≡ false
       → Leads unit (class_on list last unit) (left_from decided top low list last)
   leads-left low [] last from unit order above le open_ = by (all_between decided low top) refl
     where

@@ -1,12 +1,16 @@
 pub mod ApartLoops
 pub mod ApartOrder
+pub mod ApartWays
 pub mod Cases
 pub mod ClassLists
 pub mod EqualClasses
 pub mod FirstWays
 pub mod LeftLoops
+pub mod LeftRuns
 pub mod LeftWays
+pub mod LongestRuns
 pub mod OpsAlike
+pub mod RunNumbers
 pub mod SplitLoops
 pub mod SplitTrees
 pub mod Splits

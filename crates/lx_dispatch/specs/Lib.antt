@@ -1,6 +1,7 @@
 pub mod Dispatch
 pub mod FirstQuestions
 pub mod LeftUnits
+pub mod Runs
 pub mod TestTrees
 pub mod TransitionClasses
 pub mod UnitApart

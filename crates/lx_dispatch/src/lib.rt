@@ -5,6 +5,7 @@ mod asking;
 mod case_checks;
 mod classes;
 mod first_questions;
+pub mod laws;
 mod left_splits;
 mod proposals;
 mod test_trees;

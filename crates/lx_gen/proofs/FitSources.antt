@@ -1,14 +1,15 @@
 -- What a block resolves to fits a piece: its scanners with their automata, its conditions, and what it is beside them.
-use Rattle.std.specs.Prelude.{◌≡◌, ◌≢◌, ◌⊎◌, ℕ, zero, suc, ◌*◌, ◌<◌, ◌≤◌, ◌||◌, Bool, true, false, List, [], ◌∷◌, map, length, Option, Some, None, All, Contains, IfSome, IsSome, is_some, refl, slice_index_or}
+use Rattle.std.specs.Prelude.{◌≡◌, ◌≢◌, ◌⊎◌, ℕ, zero, suc, ◌*◌, ◌<◌, ◌≤◌, ◌^◌, ◌||◌, Bool, true, false, List, [], ◌∷◌, map, length, Option, Some, None, All, Contains, IfSome, IsSome, is_some, refl, slice_index_or}
 use Rattle.std.proofs.Common.{inl, inr, sym, ap, ◌∙◌, subst, arith}
 use Rattle.std.proofs.lemmas.Bool.{false≢true}
 use Rattle.lx_ccode.specs.Heads.{is_format_three}
 use Rattle.std.specs.List.{AllByRecursion, list_any}
+use Rattle.lx_auto.specs.declared.automaton.Accept.{Accept}
 use Rattle.lx_auto.specs.declared.automaton.Auto.{Auto}
 use Rattle.lx_auto.specs.declared.automaton.Edge.{Edge}
 use Rattle.lx_auto.specs.declared.automaton.State.{State}
 use Rattle.lx_base.specs.Letters.{IsIdentifier, equal_words}
-use Rattle.lx_base.specs.Names.{Spellings}
+use Rattle.lx_base.specs.Names.{Spellings, begins_table}
 use Rattle.lx_base.specs.Spelling.{greatest_unit}
 use Rattle.lx_base.specs.declared.limits.TheConstants.{SOURCE_LIMIT}
 use Rattle.lx_base.specs.declared.settings.Enc.{Enc}
@@ -35,6 +36,7 @@ use Rattle.lx_gen.specs.Generated.{AreAutomata, Marks, endings_by, form_of, sour
 use Rattle.lx_gen.specs.Seen.{HaveShortLines}
 use Rattle.lx_gen.proofs.Elements.{All-each, each-All}
 use Rattle.lx_gen.proofs.EndRules.{end_fits}
+use Rattle.lx_gen.proofs.FormatThree.{IsFreeOfTable, IsFreeOfTable-each, both_each, endings_without_table, is_format_three-three, labels_apart}
 use Rattle.lx_gen.proofs.WrittenEnds.{EndsAs, IsWritableAct, accepts_fit, own-apart, rules_end}
 
 module _ (enc : Enc) (marks : Marks) (acts : List Act) where
@@ -219,9 +221,9 @@ is_label (Some cond) is = is
 
 -- a scanner with its automaton fits
 scanner_fits : (enc : Enc) (form : Form) (conds : List (List ℕ)) (marks : Marks) (acts : List Act) (scanner : Scanner) (auto : Auto) (list : List ℕ)
-    → form.enc ≡ enc → is_format_three form.format ≡ false → FitsRules enc (patterns_of scanner.set.rules) auto → AreChecks auto list
+    → form.enc ≡ enc → IsFreeOfTable form.format scanner → FitsRules enc (patterns_of scanner.set.rules) auto → AreChecks auto list
     → IsKnown enc form.names conds form.eof marks acts scanner → IsFitScanner form conds (source_of enc marks acts scanner auto list)
-scanner_fits enc form conds marks acts scanner auto list same two fits checks known =
+scanner_fits enc form conds marks acts scanner auto list same tables fits checks known =
     let endings : ℕ → Ending = endings_by marks acts scanner.set.rules in
     record {
       label = is_label scanner.cond known.label;
@@ -230,10 +232,15 @@ scanner_fits enc form conds marks acts scanner auto list same two fits checks kn
       agreed = fits.agreed;
       accepts = accepts_fit form.names conds endings enc scanner.set.rules auto.states known.ends fits.rules;
       checks = checks;
-      tags = λ three. absurd (false≢true (sym two ∙ three));
+      tags = λ three k d lt. tags (endings_without_table marks acts scanner.set.rules (tables three)) (slice_index_or auto.states k d).accept;
       end = end_fits form.names conds endings enc form (source_of enc marks acts scanner auto list) scanner.set.rules refl refl known.ends known.bare
           known.limits.numbers fits.rules known.paired;
     }
+  where
+    tags : ((number : ℕ) → list_any begins_table (endings_by marks acts scanner.set.rules number).tags ≡ false) → (accept : Option Accept)
+        → IfSome accept (λ one. list_any begins_table (endings_by marks acts scanner.set.rules one.rule).tags ≡ false)
+    tags none None = tt
+    tags none (Some accept) = none accept.rule
 
 -- ---- all
 
@@ -253,18 +260,26 @@ module _ (options : Options) (resolved : Resolved) (autos : List Auto) (checks :
       all_known options.enc resolved.config.names (conds_of sources) resolved.config.eof marks resolved.acts formed.fits.few writable resolved.scanners
       (each-All (IsFit (length resolved.acts)) resolved.scanners formed.fits.scanners) formed.scanners formed.ends formed.linked.identifiers formed.tags formed.bare lines
 
-  pub all_fit : 0 < length resolved.scanners → first_state ≤ 4611686018427387904 → IsLine line
+  known_and_free : AllByRecursion (λ (scanner : Scanner).
+      IsKnown options.enc resolved.config.names (conds_of sources) resolved.config.eof marks resolved.acts scanner × IsFreeOfTable options.format scanner)
+      resolved.scanners
+  known_and_free =
+      both_each (IsKnown options.enc resolved.config.names (conds_of sources) resolved.config.eof marks resolved.acts) (IsFreeOfTable options.format)
+      resolved.scanners scanners_known (IsFreeOfTable-each options.format resolved.scanners formed.no_table)
+
+  pub all_fit : number < 2 ^ 64 → 0 < length resolved.scanners → first_state ≤ 4611686018427387904 → IsLine line
       → AreFit (form_of options resolved number first_state own_switch line) sources
-  all_fit some few told =
+  all_fit short some few told =
       let form = form_of options resolved number first_state own_switch line in
       record {
         some = subst (λ count. 0 < count) (sym (sources-length options.enc marks resolved.acts resolved.scanners autos checks are)) some;
         each = All-each (IsFitScanner form (conds_of sources)) sources
             (each_source options.enc marks resolved.acts (IsFitScanner form (conds_of sources))
-            (IsKnown options.enc resolved.config.names (conds_of sources) resolved.config.eof marks resolved.acts)
+            (λ (scanner : Scanner).
+            IsKnown options.enc resolved.config.names (conds_of sources) resolved.config.eof marks resolved.acts scanner × IsFreeOfTable options.format scanner)
             (λ scanner auto list fits checked known.
-            scanner_fits options.enc form (conds_of sources) marks resolved.acts scanner auto list refl refl fits checked known)
-            resolved.scanners autos checks are scanners_known);
+            scanner_fits options.enc form (conds_of sources) marks resolved.acts scanner auto list refl known.1 fits checked known.0)
+            resolved.scanners autos checks are known_and_free);
         conds = conditions_fit options.enc marks resolved.acts options.conds resolved.scanners autos checks are some formed.linked.named formed.linked.different;
         different = different_sources options.enc marks resolved.acts resolved.scanners autos checks are formed.linked.different;
         first_state = few;
@@ -272,7 +287,9 @@ module _ (options : Options) (resolved : Resolved) (autos : List Auto) (checks :
         names = formed.spellings;
         names_differ = formed.differ.0;
         no_primitive = formed.differ.1;
-        no_table = λ three. absurd cc;
-        no_block_label = λ three. absurd cc;
+        no_table = λ three. formed.differ.2 (is_format_three-three options.format three);
+        no_block_label = λ three.
+            labels_apart options.enc marks resolved.acts number resolved.config.names resolved.scanners autos checks short are
+            (formed.labels (is_format_three-three options.format three));
         line = told;
       }

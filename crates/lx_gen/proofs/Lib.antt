@@ -1,6 +1,7 @@
 pub mod Elements
 pub mod EndRules
 pub mod FitSources
+pub mod FormatThree
 pub mod LikeInputs
 pub mod RightScanners
 pub mod RuleEndings

@@ -4,7 +4,6 @@ use Rattle.std.specs.List.{AllByRecursion, list_any}
 use Rattle.lx_auto.specs.declared.automaton.Auto.{Auto}
 use Rattle.lx_base.specs.declared.places.Pos.{Pos}
 use Rattle.lx_base.specs.declared.settings.Enc.{Enc}
-use Rattle.lx_base.specs.declared.settings.Format.TheVariants.{Two}
 use Rattle.lx_base.specs.declared.settings.Options.{Options}
 use Rattle.lx_ccode.specs.declared.piece.LineMark.{LineMark}
 use Rattle.lx_ccode.specs.declared.piece.Piece.{Piece}
@@ -86,7 +85,7 @@ has_context_marker options scanners = not (options.tags || (options.captures || 
 abbrev pub form_of : Options → Resolved → (number first_state : ℕ) → (own_switch : Bool) → Option LineMark → Form
 form_of options resolved number first_state own_switch line = record {
   number = number;
-  format = Two;
+  format = options.format;
   names = resolved.config.names;
   enc = options.enc;
   custom = options.custom;

@@ -20,7 +20,7 @@ use crate::automata::ScannerAuto;
 use crate::contexts::has_context_marker;
 use crate::scanner_ends::{Marks, rule_ends};
 use lx_auto::Auto;
-use lx_base::{Format, Memory, Options, Sequence};
+use lx_base::{Memory, Options, Sequence};
 use lx_ccode::{LineMark, Piece};
 use lx_fill::CheckList;
 use lx_layout::{PieceForm, RuleEnd, ScannerInput, piece_of};
@@ -160,7 +160,7 @@ fn piece_form(
 {
     PieceForm {
         number,
-        format: Format::Two,
+        format: options.format,
         names: config.names,
         enc: options.enc,
         custom: options.custom,

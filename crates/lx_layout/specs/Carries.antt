@@ -14,6 +14,7 @@ use Rattle.lx_ccode.specs.Machine.{Answer, Machine, Outcome, code_at, ends, goes
 use Rattle.lx_ccode.specs.Runs.{ended}
 use Rattle.lx_ccode.specs.Scanners.{IsMadeBy, IsOfScanner, StandsIn, histories_named, registers_named, units_checked}
 use Rattle.lx_ccode.specs.Traces.{JumpsLastTo, count_made, is_peek, is_skip, trace}
+use Rattle.lx_layout.specs.Codes.{saved_by}
 use Rattle.lx_layout.specs.Endings.{Ending}
 use Rattle.lx_layout.specs.Stops.{told_found}
 
@@ -42,12 +43,18 @@ pub record NamesItsOwn (auto : Auto) (statement : Stmt) : Type 0 where
   pub histories : AllByRecursion (λ history. history ≤ auto.mregs) (histories_named statement)
   pub empty : history_written statement ≡ Some 0 → ⊥
 
--- Rules end so; each state has a place, which is a block, and a number by which it is saved; and from some states a match falls back.
-module _ (piece : Piece) (endings : ℕ → Ending) (auto : Auto) (place saved : ℕ → ℕ) (falls : ℕ → Bool) where
+-- a number is that which is kept of a state, if one is
+abbrev pub HasNumber : (saved : Option ℕ) → (number : ℕ) → Type 0
+HasNumber None number = Unit {0}
+HasNumber (Some saved) number = number ≡ saved
+
+-- Rules end so; each state has a place, which is a block, and a number by which it is saved, if numbers are kept; and from some states a match
+-- falls back.
+module _ (piece : Piece) (endings : ℕ → Ending) (auto : Auto) (place : ℕ → ℕ) (saved : Option (ℕ → ℕ)) (falls : ℕ → Bool) where
   -- the machine has saved this state, with the marker where it was left; none by the number 0
   abbrev pub HasSaved : Option Left → Machine → Type 0
   HasSaved None machine = machine.accept ≡ 0
-  HasSaved (Some left) machine = (machine.accept ≡ saved left.state) × (machine.marker ≡ left.offset)
+  HasSaved (Some left) machine = HasNumber (saved_by saved left.state) machine.accept × (machine.marker ≡ left.offset)
 
   -- the machine stands where a run of the automaton stands, and its registers are the automaton's
   pub record StandsAs (machine : Machine) (standing : Standing) : Type 0 where
@@ -121,9 +128,9 @@ pub record StopsBehind (piece : Piece) (auto : Auto) (stream : List ℕ) (start 
 
 -- The scanner that begins at a block of a piece carries an automaton, with these ends of rules.
 pub record Carries (piece : Piece) (entry : ℕ) (endings : ℕ → Ending) (auto : Auto) : Type 0 where
-  -- where each state stands, the number by which it is saved for a fallback, and whether a match falls back from it
+  -- where each state stands, the number by which it is saved for a fallback, if numbers are kept, and whether a match falls back from it
   pub place : ℕ → ℕ
-  pub saved : ℕ → ℕ
+  pub saved : Option (ℕ → ℕ)
   pub falls : ℕ → Bool
   -- states with an edge stand at different blocks of the piece
   pub blocks : (state : ℕ) → HasEdge auto state → place state < length piece.blocks

@@ -1,5 +1,5 @@
 -- The code of operations, of edges, of the end in a state, and of the fallback.
-use Rattle.std.specs.Prelude.{ℕ, suc, List, [], ◌∷◌, Bool, true, false}
+use Rattle.std.specs.Prelude.{ℕ, suc, List, [], ◌∷◌, Bool, true, false, Option, Some, None}
 use Rattle.lx_auto.specs.declared.automaton.Auto.{Auto}
 use Rattle.lx_auto.specs.declared.ops.Op.{Op}
 use Rattle.lx_auto.specs.declared.ops.Op.TheVariants as act
@@ -34,10 +34,16 @@ pub record Choice : Type 0 where
 
 -- ---- edges and ends
 
--- an accepting state that is left is saved: the cursor in the marker, and a number
-abbrev pub save_code : (saves : Bool) → (saved : ℕ) → List Stmt → List Stmt
+-- the number by which a state is saved, if numbers are kept
+abbrev pub saved_by : Option (ℕ → ℕ) → (state : ℕ) → Option ℕ
+saved_by None state = None
+saved_by (Some saved) state = Some (saved state)
+
+-- an accepting state that is left is saved: the cursor in the marker, and a number, if one is kept
+abbrev pub save_code : (saves : Bool) → (saved : Option ℕ) → List Stmt → List Stmt
 save_code false saved rest = rest
-save_code true saved rest = Backup ∷ SaveAccept saved ∷ rest
+save_code true None rest = Backup ∷ rest
+save_code true (Some saved) rest = Backup ∷ SaveAccept saved ∷ rest
 
 -- the end of a match in a state that accepts: its last operations, and then the rule's block
 abbrev pub accept_code : Auto → List Op → (block : ℕ) → List Stmt

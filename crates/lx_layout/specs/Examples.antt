@@ -5,17 +5,20 @@ use Rattle.lx_auto.specs.declared.automaton.Auto.{Auto}
 use Rattle.lx_base.specs.Names.{Spellings}
 use Rattle.lx_ccode.specs.declared.piece.Piece.{Piece}
 use Rattle.lx_ccode.specs.declared.piece.Stmt.{Stmt}
-use Rattle.lx_ccode.specs.declared.piece.Stmt.TheVariants.{Accept, Backup, Code, Goto, IfAccept, IfUnit, Leave, Peek, Restore, Set, Skip, Tag}
-use Rattle.lx_ccode.specs.Machine.{by_rule, no_rule, tag_offset}
+use Rattle.lx_ccode.specs.declared.piece.Stmt.TheVariants.{Accept, Backup, Code, Goto, IfAccept, IfUnit, Leave, Need, Peek, Restore, Set, Skip, Tag}
+use Rattle.lx_ccode.specs.declared.piece.Mode.TheVariants.{Count}
+use Rattle.lx_ccode.specs.Machine.{at_end, by_rule, no_rule, tag_offset}
 use Rattle.lx_ccode.specs.Runs.{Ended}
 use Rattle.lx_layout.specs.Endings.{Ending}
 use Rattle.lx_layout.specs.Halting.{Halting}
 use Rattle.lx_layout.specs.Layout.{class_block}
+use Rattle.lx_layout.specs.RightInMode.{EndsAtCheck}
 use Rattle.lx_layout.specs.Starts.{run_with}
 use Rattle.lx_layout.specs.SuppliedLayout.{EachReader, reader_blocks, supplied_layout, with_blocks}
 use Rattle.lx_layout.specs.Supplies.{Reader, entry, plain_supply, state}
 use Rattle.lx_dispatch.specs.TestTrees.{IsTreeOf, TestTree, at_most, fork, leaf, test}
 use Rattle.lx_dispatch.specs.TransitionClasses.{Split}
+use Rattle.lx_base.specs.declared.settings.Format.TheVariants.{Two}
 
 -- each rule has the tag `t`, and the action `a`
 abbrev pub tagged : ℕ → Ending
@@ -32,7 +35,7 @@ dotted_trees (state number) = dotted_tree number
 
 -- a match can end in both states, and falls back from state 0, which does not accept
 abbrev pub dotted_halting : Halting
-dotted_halting = record { halts = λ number. true; falls = λ number. nat_eq number 0 }
+dotted_halting = record { halts = λ number. true; falls = λ number. nat_eq number 0; format = Two }
 
 -- The layout by them. The two ranges of state 0 are one class; the units from 97 up to 119 are tested in block 1. State 1 stands from block
 -- 3 on: a dot, on which it is saved, and the end in it. Then come the fallback, what it does for rule 1, and the end of rule 1.
@@ -75,7 +78,7 @@ any_trees entry = any_tree 0
 any_trees (state number) = any_tree number
 
 abbrev pub any_halting : Halting
-any_halting = record { halts = λ number. nat_eq number 1; falls = λ number. false }
+any_halting = record { halts = λ number. nat_eq number 1; falls = λ number. false; format = Two }
 
 abbrev pub any_blocks : List (List Stmt)
 any_blocks =
@@ -174,3 +177,17 @@ pub record RunsOfDotted : Type 0 where
       ≡ record { outcome = by_rule 1; cursor = 1; cond = []; values = tag_offset (116 ∷ []) (Some 1) ∷ [] }
   pub none : (names : Spellings) → run_on names (33 ∷ [])
       ≡ record { outcome = no_rule; cursor = 0; cond = []; values = [] }
+
+-- a piece that checks for two units
+abbrev pub checked_piece : Spellings → Piece
+checked_piece names = bytes_piece names ((Need 2 ∷ Leave ∷ []) ∷ [])
+
+-- a run of it that ends at the check, behind one unit
+abbrev pub ended_behind_one : Ended
+ended_behind_one = record { outcome = at_end; cursor = 1; cond = []; values = [] }
+
+-- Where units are counted, a run may end at a check for two behind the first of two units. Of three units two are left there, just as many as
+-- the check is for, and it may not.
+pub record ChecksAreForMore : Type 0 where
+  pub for_more : (names : Spellings) → EndsAtCheck Count (checked_piece names) 2 ended_behind_one
+  pub not_for_as_many : (names : Spellings) → EndsAtCheck Count (checked_piece names) 3 ended_behind_one → ⊥

@@ -9,7 +9,7 @@ use Rattle.lx_layout.specs.Codes.{Choice, list_code, save_code}
 use Rattle.lx_layout.specs.Halting.{Halting, saves_on}
 
 -- an edge out of a state, to the block of another one: the operations come before the unit is passed
-abbrev pub edge_code : Halting → Auto → State → (saved : ℕ) → Edge → (block : ℕ) → List Stmt
+abbrev pub edge_code : Halting → Auto → State → (saved : Option ℕ) → Edge → (block : ℕ) → List Stmt
 edge_code halting auto given saved edge block =
     save_code (saves_on halting given edge) saved (list_code auto given.leave (list_code auto edge.ops (Skip ∷ Goto block ∷ [])))
 

@@ -1,12 +1,14 @@
 -- In which states of an automaton a match can end, which states are saved for a fallback, and by which accepts a match ends.
-use Rattle.std.specs.Prelude.{◌≡◌, ℕ, zero, suc, ◌<◌, ◌≤◌, ◌↔◌, nat_eq, Bool, true, false, ◌&&◌, ◌||◌, List, [], ◌∷◌, length, Option, Some, None, Contains, IsSome, is_some, if◌then◌else◌}
+use Rattle.std.specs.Prelude.{◌≡◌, ℕ, zero, suc, ◌<◌, ◌≤◌, ◌↔◌, nat_eq, nat_lt, Bool, true, false, ◌&&◌, ◌||◌, List, [], ◌∷◌, length, Option, Some, None, Contains, IsSome, is_some, if◌then◌else◌}
 use Rattle.std.specs.List.{list_any}
 use Rattle.lx_auto.specs.Automaton.{edge_on, state_of}
 use Rattle.lx_auto.specs.declared.automaton.Accept.{Accept}
 use Rattle.lx_auto.specs.declared.automaton.Auto.{Auto}
 use Rattle.lx_auto.specs.declared.automaton.Edge.{Edge}
 use Rattle.lx_auto.specs.declared.automaton.State.{State}
-use Rattle.lx_layout.specs.Layout.{with_accept}
+use Rattle.lx_base.specs.declared.settings.Format.{Format}
+use Rattle.lx_base.specs.declared.settings.Format.TheVariants.{Three, Two}
+use Rattle.lx_layout.specs.Layout.{saved_number, with_accept}
 
 -- an edge leads to the state with this number
 abbrev pub is_led_to : List State → (number : ℕ) → Bool
@@ -24,6 +26,8 @@ is_entered (Some rule) auto (suc number) = true
 pub record Halting : Type 0 where
   pub halts : ℕ → Bool
   pub falls : ℕ → Bool
+  -- the format of the text that is laid out by these marks
+  pub format : Format
 
 -- ---- what is right of these
 
@@ -79,6 +83,15 @@ module _ (halting : Halting) where
 
   abbrev pub saved_accepts : List State → List Accept
   saved_accepts states = firsts_from saved_accept [] 0 states
+
+  -- The number of a state that is saved is kept where the fallback asks for it: where a match may have come to no state that accepts, or
+  -- where it falls back to states of more rules than one. In text of format 2 it is kept in any case.
+  abbrev pub keeps_numbers : Format → (saved_accepts : List Accept) → Bool
+  keeps_numbers Two saved_accepts = true
+  keeps_numbers Three saved_accepts = halting.falls 0 || nat_lt 1 (length saved_accepts)
+
+  abbrev pub kept_number : (saved_accepts : List Accept) → Option Accept → Option ℕ
+  kept_number saved_accepts accept = if keeps_numbers halting.format saved_accepts then Some (saved_number saved_accepts accept) else None
 
   -- a match falls back from some state of a list, of which the first one has this number
   abbrev pub any_falls : (number : ℕ) → List State → Bool

@@ -94,6 +94,7 @@ pub record ArePlans (plans : PartPlans) : Type 0 where
   pub planned : AreStatePlans plans.input.demand.asking.format plans.input.demand.asking.sets.now.table.items plans.input.demand.eof plans.input.greatest
       plans.states.items
   pub marked : AreHalting plans.input.demand.eof plans.input.end_rule plans.input.greatest plans.input.auto.now (seen_marks plans.marks)
+  pub format : plans.marks.format ≡ plans.input.demand.asking.format
   pub entered : plans.entered ≡ is_entered plans.input.end_rule plans.input.auto.now 0
 
 -- how many blocks there are for tests, for the end of the input, and for a state as a whole

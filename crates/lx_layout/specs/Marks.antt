@@ -13,6 +13,7 @@ seen_marks marks =
     record {
       halts = λ number. slice_index_or marks.halts.items number false;
       falls = λ number. slice_index_or marks.falls.items number false;
+      format = marks.format;
     }
 
 -- ---- where a match can end

@@ -106,6 +106,7 @@ pub record Part : Type 0 where
 pub record IsPartOf (greatest : ℕ) (given : Given) (part : Part) : Type 0 where
   pub is : part.given ≡ given
   pub marked : AreHalting given.demand.eof given.end_rule greatest given.auto part.halting
+  pub format : part.halting.format ≡ given.demand.format
   pub trees : EachReader (AreTestsOf given.demand.format given.demand.table given.demand.eof greatest) given.demand.eof greatest part.trees given.auto
 
 abbrev pub given_supply : Given → (first : ℕ) → Supply

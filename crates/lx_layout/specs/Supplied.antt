@@ -8,7 +8,8 @@ use Rattle.lx_auto.specs.declared.automaton.Edge.{Edge}
 use Rattle.lx_auto.specs.declared.automaton.State.{State}
 use Rattle.lx_ccode.specs.declared.piece.Stmt.{Stmt}
 use Rattle.lx_ccode.specs.declared.piece.Stmt.TheVariants.{Goto, Peek}
-use Rattle.lx_layout.specs.Codes.{Choice, accept_code, restore_code}
+use Rattle.lx_layout.specs.Carries.{HasNumber}
+use Rattle.lx_layout.specs.Codes.{Choice, accept_code, restore_code, saved_by}
 use Rattle.lx_layout.specs.Endings.{Ending, ending_code}
 use Rattle.lx_layout.specs.Fallback.{chosen, edge_code, fallback_code}
 use Rattle.lx_layout.specs.Halting.{Halting, is_entered, is_saved}
@@ -18,9 +19,9 @@ use Rattle.lx_dispatch.specs.TestTrees.{TestTree, picked}
 use Rattle.lx_layout.specs.TreeCodes.{inner_blocks, tree_code}
 
 -- With this supply of units, these marks of the states in which a match can end, these ends of rules, units up to a greatest one, and
--- blocks; each state has a block where its code begins, and a number by which it is saved. The end of each rule by which a match can end
+-- blocks; each state has a block where its code begins, and a number by which it is saved, if numbers are kept. The end of each rule by which a match can end
 -- has a block, and so has the fallback where there is one.
-module _ (supply : Supply) (halting : Halting) (endings : ℕ → Ending) (greatest : ℕ) (auto : Auto) (blocks : List (List Stmt)) (place saved rules : ℕ → ℕ) (fall : ℕ) where
+module _ (supply : Supply) (halting : Halting) (endings : ℕ → Ending) (greatest : ℕ) (auto : Auto) (blocks : List (List Stmt)) (place : ℕ → ℕ) (saved : Option (ℕ → ℕ)) (rules : ℕ → ℕ) (fall : ℕ) where
   abbrev pub HasCode : (block : ℕ) → List Stmt → Type 0
   HasCode block code = slice_get blocks block ≡ Some code
 
@@ -38,7 +39,7 @@ module _ (supply : Supply) (halting : Halting) (endings : ℕ → Ending) (great
   -- this block comes next in a state where a unit has this edge, or none
   abbrev pub IsTarget : (number : ℕ) → State → Option Edge → (block : ℕ) → Type 0
   IsTarget number given None block = IsEnd number given.accept block
-  IsTarget number given (Some edge) block = HasCode block (edge_code halting auto given (saved number) edge (place edge.to))
+  IsTarget number given (Some edge) block = HasCode block (edge_code halting auto given (saved_by saved number) edge (place edge.to))
 
   -- what stands at a block where the unit at the end was read, of a reader whose own block this is, if there is no other unit: the match
   -- ends there, or a refill is tried before
@@ -80,10 +81,10 @@ module _ (supply : Supply) (halting : Halting) (endings : ℕ → Ending) (great
       × ServesReader entry 0 block (λ unit to. IsTarget 0 (state_of auto.states 0) (edge_on (state_of auto.states 0).edges unit) to)
       (λ end. HasCode end (ending_code endings rule []))
 
-  -- a state that is saved is found again by the number by which it is saved
+  -- a state that is saved is found again by the number by which it is saved, and by any number where none is kept
   abbrev pub Restores : List Choice → (number : ℕ) → Accept → Type 0
   Restores choices number accept =
-      (block : ℕ) × (chosen (halting.falls 0) choices (saved number) ≡ Some block) × HasCode block (restore_code (rules accept.rule))
+      (block : ℕ) × ((kept : ℕ) → HasNumber (saved_by saved number) kept → chosen (halting.falls 0) choices kept ≡ Some block) × HasCode block (restore_code (rules accept.rule))
 
   -- with this rule at the end of the input
   pub record Serves (end_rule : Option ℕ) : Type 0 where

@@ -12,7 +12,7 @@ use Rattle.lx_ccode.specs.Statements.{targets}
 use Rattle.lx_layout.specs.Fallback.{edge_code, fallback_code}
 use Rattle.lx_layout.specs.Endings.{Ending, ending_code}
 use Rattle.lx_layout.specs.Layout.{choices_from, class_block, end_block, end_blocks, end_size, ending_blocks, lone_blocks, lone_place, lone_size, restore_blocks, rule_place, saved_number}
-use Rattle.lx_layout.specs.Halting.{Halting, any_falls, ended_accepts, halted_accept, is_entered, saved_accepts}
+use Rattle.lx_layout.specs.Halting.{Halting, any_falls, ended_accepts, halted_accept, is_entered, keeps_numbers, kept_number, saved_accepts}
 use Rattle.lx_layout.specs.Supplies.{Reader, Supply, back_code, end_test, entry, need_code, state as by_state, try_code}
 use Rattle.lx_dispatch.specs.TestTrees.{TestTree, cases_by, fork, leaf, switch, test}
 use Rattle.lx_layout.specs.TreeCodes.{inner_blocks, inner_size, tree_code}
@@ -88,15 +88,16 @@ with_blocks block (test question class high) = test question (block class) (with
 with_blocks block (fork question low high) = fork question (with_blocks block low) (with_blocks block high)
 with_blocks block (switch cases last) = switch (cases_by block cases) (block last)
 
--- the number by which a state is saved
-abbrev pub number_in : Halting → List State → (number : ℕ) → ℕ
-number_in halting states number = saved_number (saved_accepts halting states) (state_of states number).accept
+-- the numbers by which states are saved, if they are kept
+abbrev pub number_in : Halting → List State → Option (ℕ → ℕ)
+number_in halting states =
+    if keeps_numbers halting halting.format (saved_accepts halting states) then Some (λ number. saved_number (saved_accepts halting states) (state_of states number).accept) else None
 
 -- the blocks of transition classes, if the states stand at these places
 abbrev pub class_blocks : Halting → Auto → (saved_accepts : List Accept) → (place : ℕ → ℕ) → State → (classes : List Edge) → List (List Stmt)
 class_blocks halting auto saved place given [] = []
 class_blocks halting auto saved place given (class ∷ classes) =
-    edge_code halting auto given (saved_number saved given.accept) class (place class.to) ∷ class_blocks halting auto saved place given classes
+    edge_code halting auto given (kept_number halting saved given.accept) class (place class.to) ∷ class_blocks halting auto saved place given classes
 
 -- ---- a state, and the entry where a rule stands at the end of the input
 

@@ -7,7 +7,7 @@ ghost use Rattle.lx_layout.specs.Halting.{AreHalting, any_falls, is_entered, is_
 ghost use Rattle.lx_layout.specs.Marks.{AreFalls, AllFall, IsClosed, bare_from, falls_by, halts_by, halts_from, seen_marks, unmarked};
 
 use lx_auto::{Auto, Edge, State};
-use lx_base::Memory;
+use lx_base::{Format, Memory};
 use std::alloc::Global;
 
 /// How many states are marked round by round alone: most scanners have no more.
@@ -18,6 +18,8 @@ const FEW: usize = 8;
 pub(crate) struct Marks {
     pub halts: Vec<bool>,
     pub falls: Vec<bool>,
+    /// The format of the text that is laid out by them.
+    pub format: Format,
 }
 
 /// Whether the state with this number is marked. One that is not there is not.
@@ -339,13 +341,19 @@ pub(crate) fn marks_of(
     eof: Option<u32>,
     end_rule: Option<u32>,
     auto: &Auto,
+    format: Format,
 ) -> Result<Marks, Memory>
     requires { IsAuto auto.now }
-    ensures { IfOk result (λ marks. AreHalting eof end_rule greatest auto.now (seen_marks marks)) }
+    ensures marked { IfOk result (λ marks. AreHalting eof end_rule greatest auto.now (seen_marks marks)) }
+    ensures format { IfOk result (λ marks. marks.format ≡ format) }
 {
     let states = auto.states.as_slice();
     let entered = start_is_entered(end_rule, auto);
     let halts = halts_of(alloc, greatest, eof.is_some(), entered, states)?;
     let falls = falls_of(alloc, halts.as_slice(), states)?;
-    Ok(Marks { halts, falls })
+    Ok(Marks {
+        halts,
+        falls,
+        format,
+    })
 }

@@ -49,7 +49,7 @@ ghost use Rattle.lx_dispatch.specs.TransitionClasses.{Split};
 /// only where a unit does.
 pub fn supplied_pieces_are_right()
     ensures { (policy : Policy) (mode : Mode) (enc : Enc) (patterns : List Pattern) (auto : Auto) (endings : ℕ → Ending) (supply : Supply)
-        (halting : Halting) (piece : Piece) (place saved rules : ℕ → ℕ) (fall entry : ℕ) (cond : List ℕ)
+        (halting : Halting) (piece : Piece) (place : ℕ → ℕ) (saved : Option (ℕ → ℕ)) (rules : ℕ → ℕ) (fall entry : ℕ) (cond : List ℕ)
         → IsAutoUnder policy enc patterns auto → HaveEndings enc patterns endings
         → supplied.Serves supply halting endings (greatest_unit enc) auto (code_of piece.blocks) place saved rules fall (end_rule patterns)
         → ServesEntry supply halting endings (greatest_unit enc) auto (code_of piece.blocks) place saved rules fall (end_rule patterns) entry
@@ -229,7 +229,7 @@ pub fn carried_states_are_blocks()
 /// A piece whose blocks serve an automaton carries it, if different states with an edge stand at different blocks, each block of the
 /// scanner that reads a unit is one of these or the entry, and its statements name registers of the automaton.
 pub fn supplied_pieces_carry_automata()
-    ensures { (piece : Piece) (entry : ℕ) (endings : ℕ → Ending) (greatest : ℕ) (auto : Auto) (supply : Supply) (halting : Halting) (place saved rules : ℕ → ℕ)
+    ensures { (piece : Piece) (entry : ℕ) (endings : ℕ → Ending) (greatest : ℕ) (auto : Auto) (supply : Supply) (halting : Halting) (place : ℕ → ℕ) (saved : Option (ℕ → ℕ)) (rules : ℕ → ℕ)
         (fall : ℕ) (end_rule : Option ℕ)
         → supplied.Serves supply halting endings greatest auto (code_of piece.blocks) place saved rules fall end_rule
         → ServesEntry supply halting endings greatest auto (code_of piece.blocks) place saved rules fall end_rule entry

@@ -2,7 +2,8 @@
 ghost use Rattle.std.specs.Prelude.{◌≡◌, ◌<◌, IfOk, length};
 ghost use Rattle.lx_auto.specs.Automaton.{AreOps};
 ghost use Rattle.lx_layout.specs.Codes.{accept_code};
-ghost use Rattle.lx_layout.specs.LaidParts.{ArePartEnds, ArePlans, IsExits, end_at, end_rule_at, first_at, own_at, rule_at, saved_at, turn_begin_at};
+ghost use Rattle.lx_layout.specs.Halting.{keeps_numbers, kept_number};
+ghost use Rattle.lx_layout.specs.LaidParts.{ArePartEnds, ArePlans, IsExits, end_at, end_rule_at, first_at, halting_at, own_at, rule_at, saved_at, turn_begin_at};
 ghost use Rattle.lx_layout.specs.Layout.{saved_number};
 ghost use Rattle.lx_layout.specs.SuppliedLayout.{sized};
 
@@ -12,7 +13,7 @@ use crate::readers::Exits;
 use crate::state_plans::PartPlans;
 use crate::statements::append_list;
 use lx_auto::Accept;
-use lx_base::Memory;
+use lx_base::{Format, Memory};
 use lx_ccode::Stmt;
 use std::alloc::Global;
 
@@ -135,13 +136,36 @@ impl PartEnds<'_> {
     }
 
     /// The number by which an accepting state is saved.
-    pub fn saved_number(&self, accept: &Option<Accept>) -> u32
+    fn saved_number(&self, accept: &Option<Accept>) -> u32
         requires { ArePartEnds self.now }
         ensures { result ≡ saved_number (saved_at self.now.plans) accept.now }
     {
         match accept {
             None => 0,
             Some(accept) => self.saved.rule_place(accept.rule) as u32 + 1,
+        }
+    }
+
+    /// Whether the numbers of states that are saved are kept.
+    fn keeps_numbers(&self) -> bool
+        requires { ArePartEnds self.now }
+        ensures { result ≡ keeps_numbers (halting_at self.now.plans) self.now.plans.marks.format (saved_at self.now.plans) }
+    {
+        match self.plans.marks.format {
+            Format::Two => true,
+            Format::Three => self.plans.marks.falls(0) || 1 < self.saved.list.len(),
+        }
+    }
+
+    /// The number by which an accepting state is saved, if it is kept.
+    pub fn kept_number(&self, accept: &Option<Accept>) -> Option<u32>
+        requires { ArePartEnds self.now }
+        ensures { result ≡ kept_number (halting_at self.now.plans) (saved_at self.now.plans) accept.now }
+    {
+        if self.keeps_numbers() {
+            Some(self.saved_number(accept))
+        } else {
+            None
         }
     }
 

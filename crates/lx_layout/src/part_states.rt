@@ -37,13 +37,15 @@ pub(crate) struct Spot {
     pub asked: u64,
 }
 
-/// Appends the statements that save an accepting state and the cursor, if they are to be saved.
-fn append_save(stmts: &mut Vec<Stmt>, saves: bool, saved: u32) -> Result<(), Memory>
+/// Appends the statements that save an accepting state and the cursor, if they are to be saved. A number is kept only where it is asked for.
+fn append_save(stmts: &mut Vec<Stmt>, saves: bool, saved: Option<u32>) -> Result<(), Memory>
     ensures { OnOk result (stmts.new.items ≡ stmts.old.items ++ save_code saves saved []) }
 {
     if saves {
         stmts.push(Stmt::Backup)?;
-        stmts.push(Stmt::Accept(saved))?;
+        if let Some(number) = saved {
+            stmts.push(Stmt::Accept(number))?;
+        }
     }
     Ok(())
 }
@@ -54,7 +56,7 @@ fn edge_code(
     marks: &Marks,
     auto: &Auto,
     state: &State,
-    saved: u32,
+    saved: Option<u32>,
     edge: &Edge,
     block: u64,
 ) -> Result<Vec<Stmt>, Memory>
@@ -93,7 +95,7 @@ fn append_classes(
 {
     let plans = &places.ends.plans;
     let auto = plans.input.auto;
-    let saved = places.ends.saved_number(&state.accept);
+    let saved = places.ends.kept_number(&state.accept);
     for class in classes {
         let block = places.states[class.edge.to as usize];
         append_block(

@@ -109,7 +109,15 @@ pub(crate) fn part_plans<'a>(
 {
     let input = *input;
     let eof = input.demand.eof;
-    let marks = marks_of(alloc, input.greatest, eof, input.end_rule, input.auto)?;
+    let format = input.demand.asking.format;
+    let marks = marks_of(
+        alloc,
+        input.greatest,
+        eof,
+        input.end_rule,
+        input.auto,
+        format,
+    )?;
     let asking = input.demand.asking;
     let states = plans_of(
         alloc,

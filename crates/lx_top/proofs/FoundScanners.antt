@@ -1,8 +1,14 @@
 -- The scanner that is read from the output of a generated source.
-use Rattle.std.proofs.Common.{◌≡◌, ◌∙◌, ℕ, ◌≤◌, List, [], ◌∷◌, None, Result, Ok, Err, MatchResult, refl, ap}
+use Rattle.std.proofs.Common.{◌≡◌, ◌∙◌, ℕ, ◌+◌, ◌≤◌, List, [], ◌∷◌, ◌++◌, Option, Some, None, Result, Ok, Err, MatchResult, refl, ap, sym}
+use Rattle.std.specs.Prelude.{if◌then◌else◌, min, take}
+use Rattle.std.proofs.lemmas.Bool.{false≢true}
+use Rattle.lx_ccode.specs.Text.{line_after, piece_text}
+use Rattle.lx_ccode.specs.declared.piece.LineMark.{LineMark}
 use Rattle.lx_ccode.specs.declared.piece.Piece.{Piece}
 use Rattle.lx_compile.specs.Cut.{IsFound}
+use Rattle.lx_compile.specs.Options.{out_name}
 use Rattle.lx_compile.specs.Output.{last_names}
+use Rattle.lx_compile.specs.Writing.{place_of}
 use Rattle.lx_compile.specs.declared.made.Made.{Made}
 use Rattle.lx_compile.specs.declared.made.Made.TheVariants as made
 use Rattle.lx_compile.proofs.FoundPieces.{is_found}
@@ -25,17 +31,33 @@ module _ (rules : ℕ) (all : List Made) (output : List ℕ) (few : rules ≤ 20
   made_one : HasOneScanner all
   made_one = output-scanner rules all output few is
 
-  found_one : IsFound (last_names is) all [] (made.Scanners made_one.piece made_one.checks made_one.warnings made_one.cover) output
+  found_one : IsFound (last_names is) (out_name source_options) all [] (made.Scanners made_one.piece made_one.checks made_one.warnings made_one.cover) output
   found_one =
-      is_found source_options (source_files rules) source_name output all source_name-plain tt is [] (made.Scanners made_one.piece made_one.checks made_one.warnings made_one.cover)
+      is_found source_options (source_files rules) source_name output all source_name-plain tt (λ named. absurd (false≢true named)) is [] (made.Scanners made_one.piece made_one.checks made_one.warnings made_one.cover)
       (made.Outside made_one.text ∷ []) made_one.all_is
+
+  -- the line where it begins
+  abbrev begin_line : ℕ
+  begin_line = line_after 1 (take found_one.offset output)
+
+  -- its text tells no line of the output
+  no_place : place_of (out_name source_options) begin_line made_one.piece ≡ None
+  no_place =
+      ap (λ t. if t then Some (record { line = min (begin_line + 4) 4294967295; file = out_name source_options }) else None)
+      (sym made_one.placed.stands)
 
   -- the scanner that was made is read
   scans_one : Scans output None made_one.piece
   scans_one = record {
     offset = found_one.offset;
     first = found_one.first_scanner tt refl;
-    begins = record { valid = made_one.valid; place = None; placed = made_one.placed; rest = found_one.rest; text = found_one.stands };
+    begins = record {
+      valid = made_one.valid;
+      place = None;
+      placed = made_one.placed;
+      rest = found_one.rest;
+      text = found_one.stands ∙ ap (λ place. piece_text place made_one.piece ++ found_one.rest) no_place;
+    };
   }
 
   -- so one is read, whose units are bytes

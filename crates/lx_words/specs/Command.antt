@@ -41,12 +41,13 @@ flag_options =
     ∷ flag_option (codes "utf-32") (Some 117) None
     ∷ flag_option (codes "ucs-2") (Some 119) None ∷ []
 
--- policies, how input is read, and what runs and generated sources take
+-- policies, how input is read, the format of emitted text, and what runs and generated sources take
 abbrev pub value_options : List Rule
 value_options =
     value_option (codes "encoding-policy") None (Some (codes "encoding-policy"))
     ∷ value_option (codes "empty-class") None (Some (codes "empty-class"))
     ∷ value_option (codes "input") None (Some (codes "input"))
+    ∷ value_option (codes "x-format") None (Some (codes "x-format"))
     ∷ value_option (codes "x-run") None (Some (codes "x-run"))
     ∷ value_option (codes "x-block") None (Some (codes "x-block"))
     ∷ value_option (codes "x-window") None (Some (codes "x-window"))

@@ -2,3 +2,4 @@ pub mod Command
 pub mod Line
 pub mod Points
 pub mod Options
+pub mod PrintedNames

@@ -7,7 +7,8 @@ use Rattle.lx_base.specs.declared.settings.Job.{Job}
 use Rattle.lx_base.specs.declared.settings.Job.TheVariants.{Compile, Run, Source}
 use Rattle.lx_base.specs.declared.settings.Enc.{Enc}
 use Rattle.lx_base.specs.declared.settings.Enc.TheVariants.{Byte, Ucs2, Utf8, Utf16, Utf32}
-use Rattle.lx_base.specs.declared.settings.Format.TheVariants.{Two}
+use Rattle.lx_base.specs.declared.settings.Format.{Format}
+use Rattle.lx_base.specs.declared.settings.Format.TheVariants.{Two, Three}
 use Rattle.lx_base.specs.declared.settings.SurPolicy.{SurPolicy}
 use Rattle.lx_base.specs.declared.settings.SurPolicy.TheVariants.{Ignore, Substitute, Fail}
 use Rattle.lx_base.specs.declared.settings.EmptyPolicy.{EmptyPolicy}
@@ -19,13 +20,17 @@ use Rattle.lx_base.specs.declared.faults.Stop.TheVariants as stop
 use Rattle.clap.specs.declared.error.kind.ErrorKind.{ErrorKind}
 use Rattle.clap.specs.declared.error.kind.ErrorKind.TheVariants.{OutOfMemory}
 use Rattle.lx_words.specs.Line.{Line, line_of, is_refused, value, has_flag, has_value}
-use Rattle.lx_words.specs.Points.{number_within, is_wrong}
+use Rattle.lx_words.specs.Points.{asks_for_three, number_within, is_wrong}
 
 -- the encoding: a unit is a byte where no other is asked for
 abbrev pub encoding_of : Line → Enc
 encoding_of line =
     if has_flag line (codes "utf-8") then Utf8 else if has_flag line (codes "utf-16") then Utf16
     else if has_flag line (codes "utf-32") then Utf32 else if has_flag line (codes "ucs-2") then Ucs2 else Byte
+
+-- the format of emitted text: 2 where no other is asked for
+abbrev pub format_of : Line → Format
+format_of line = if asks_for_three line then Three else Two
 
 abbrev pub encoding_policy_named : List ℕ → SurPolicy
 encoding_policy_named text = if bytes_eq text (codes "substitute") then Substitute else if bytes_eq text (codes "fail") then Fail else Ignore
@@ -56,7 +61,7 @@ job_of line = job_by (number_of line (codes "x-source") 1 200) (value line (code
 unfoldable pub options_of : Line → Options
 options_of line = record {
   job = job_of line;
-  format = Two;
+  format = format_of line;
   lines = not (has_flag line (codes "no-debug-info"));
   conds = has_flag line (codes "conditions");
   states = has_flag line (codes "storable-state");

@@ -58,6 +58,17 @@ has_wrong_policy line =
 abbrev pub has_wrong_input : Line → Bool
 has_wrong_input line = option_map_or (λ text. not (bytes_eq text (codes "custom"))) (value line (codes "input")) false
 
+abbrev pub is_format : List ℕ → Bool
+is_format text = bytes_eq text (codes "2") || bytes_eq text (codes "3")
+
+-- emitted text is to have a format that there is not
+abbrev pub has_wrong_format : Line → Bool
+has_wrong_format line = option_map_or (λ text. not (is_format text)) (value line (codes "x-format")) false
+
+-- emitted text is to have format 3
+abbrev pub asks_for_three : Line → Bool
+asks_for_three line = option_map_or (λ text. bytes_eq text (codes "3")) (value line (codes "x-format")) false
+
 -- an option says how a scanner is run
 abbrev pub says_how_to_run : Line → Bool
 says_how_to_run line = has_value line (codes "x-block") || (has_value line (codes "x-window") || has_value line (codes "x-piece"))
@@ -69,7 +80,8 @@ says_how_to_compile line =
     || (has_flag line (codes "reusable") || (has_flag line (codes "tags") || (has_flag line (codes "nested-ifs")
     || (has_flag line (codes "captures") || (has_flag line (codes "posix") || (has_flag line (codes "warnings")
     || (has_flag line (codes "x-cover") || (nat_lt 0 (encoding_count line) || (has_value line (codes "include")
-    || (has_value line (codes "encoding-policy") || (has_value line (codes "empty-class") || has_value line (codes "input"))))))))))))))
+    || (has_value line (codes "encoding-policy") || (has_value line (codes "empty-class") || (has_value line (codes "input")
+    || has_value line (codes "x-format")))))))))))))))
 
 -- options of a run stand without one, or a run stands with other options
 abbrev pub mixes_run : Line → Bool
@@ -93,9 +105,17 @@ is_odd_name (letter ∷ text) =
 abbrev pub has_odd_name : Line → (id : List ℕ) → Bool
 has_odd_name line id = option_map_or is_odd_name (value line id) false
 
+-- the output is named in what is printed, by `#line` in text of format 3
+abbrev pub prints_output : Line → Bool
+prints_output line = asks_for_three line && (not (has_flag line (codes "no-debug-info")) && not (has_flag line (codes "x-cover")))
+
+-- and so by a name that would end a line or open a block there
+abbrev pub has_odd_output : Line → Bool
+has_odd_output line = prints_output line && has_odd_name line (codes "output")
+
 -- the line is wrong
 abbrev pub is_wrong : Line → Bool
 is_wrong line =
     misses_file line || (nat_lt 1 (encoding_count line) || (mixes_captures line || (has_wrong_numbers line || (has_wrong_policy line
-    || (has_wrong_input line || (mixes_run line || (mixes_source line || (has_odd_name line (codes "file") || (has_odd_name line (codes "x-run")
-    || has_odd_name line (codes "include"))))))))))
+    || (has_wrong_input line || (has_wrong_format line || (mixes_run line || (mixes_source line || (has_odd_name line (codes "file")
+    || (has_odd_name line (codes "x-run") || (has_odd_name line (codes "include") || has_odd_output line)))))))))))

@@ -35,11 +35,12 @@ const FLAGS: [Spelling; 14] = [
     ("ucs-2", Some('w'), None),
 ];
 
-/// Policies, how input is read, and what runs and generated sources take: each has a value, and stands at most once.
-const VALUES: [Spelling; 8] = [
+/// Policies, how input is read, the format of emitted text, and what runs and generated sources take: each has a value, and stands at most once.
+const VALUES: [Spelling; 9] = [
     ("encoding-policy", None, Some("encoding-policy")),
     ("empty-class", None, Some("empty-class")),
     ("input", None, Some("input")),
+    ("x-format", None, Some("x-format")),
     ("x-run", None, Some("x-run")),
     ("x-block", None, Some("x-block")),
     ("x-window", None, Some("x-window")),

@@ -6,6 +6,7 @@ ghost use Rattle.lx_words.specs.Options as spec;
 
 use crate::line::{has_flag, has_value, value};
 use crate::numbers::number_within;
+use crate::points::asks_for_three;
 use clap::ArgMatches;
 use lx_base::{EmptyPolicy, Enc, FileName, Format, Job, Memory, Options, SurPolicy};
 use std::alloc::Global;
@@ -26,6 +27,16 @@ fn encoding_of(line: &ArgMatches<'_>) -> Enc
         Enc::Ucs2
     } else {
         Enc::Byte
+    }
+}
+
+fn format_of(line: &ArgMatches<'_>) -> Format
+    ensures { result ≡ spec.format_of (rows_of (found_of line.now)) }
+{
+    if asks_for_three(line) {
+        Format::Three
+    } else {
+        Format::Two
     }
 }
 
@@ -126,7 +137,7 @@ pub fn options_of(alloc: Global, line: &ArgMatches<'_>) -> Result<Options, Memor
     };
     Ok(Options {
         job: job_of(alloc, line)?,
-        format: Format::Two,
+        format: format_of(line),
         lines: !has_flag(line, "no-debug-info"),
         conds: has_flag(line, "conditions"),
         states: has_flag(line, "storable-state"),

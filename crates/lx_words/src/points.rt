@@ -87,6 +87,31 @@ fn has_wrong_input(line: &ArgMatches<'_>) -> bool
     }
 }
 
+fn is_format(text: &str) -> bool
+    ensures { result ≡ point.is_format text.now }
+{
+    text == "2" || text == "3"
+}
+
+fn has_wrong_format(line: &ArgMatches<'_>) -> bool
+    ensures { result ≡ point.has_wrong_format (rows_of (found_of line.now)) }
+{
+    match value(line, "x-format") {
+        Some(text) => !is_format(text),
+        None => false,
+    }
+}
+
+/// Whether the line asks for text of format 3.
+pub(crate) fn asks_for_three(line: &ArgMatches<'_>) -> bool
+    ensures { result ≡ point.asks_for_three (rows_of (found_of line.now)) }
+{
+    match value(line, "x-format") {
+        Some(text) => text == "3",
+        None => false,
+    }
+}
+
 fn says_how_to_run(line: &ArgMatches<'_>) -> bool
     ensures { result ≡ point.says_how_to_run (rows_of (found_of line.now)) }
 {
@@ -111,6 +136,7 @@ fn says_how_to_compile(line: &ArgMatches<'_>) -> bool
         || has_value(line, "encoding-policy")
         || has_value(line, "empty-class")
         || has_value(line, "input")
+        || has_value(line, "x-format")
 }
 
 fn mixes_run(line: &ArgMatches<'_>) -> bool
@@ -153,6 +179,20 @@ fn has_odd_name(line: &ArgMatches<'_>, id: &str) -> bool
     }
 }
 
+/// Whether the output is named in what is printed, by `#line` in text of format 3.
+fn prints_output(line: &ArgMatches<'_>) -> bool
+    ensures { result ≡ point.prints_output (rows_of (found_of line.now)) }
+{
+    asks_for_three(line) && !has_flag(line, "no-debug-info") && !has_flag(line, "x-cover")
+}
+
+/// Whether it is named so, and a line would end in the name or a block open there.
+fn has_odd_output(line: &ArgMatches<'_>) -> bool
+    ensures { result ≡ point.has_odd_output (rows_of (found_of line.now)) }
+{
+    prints_output(line) && has_odd_name(line, "output")
+}
+
 /// Whether a line is wrong that the command reads.
 pub fn is_wrong(line: &ArgMatches<'_>) -> bool
     ensures { result ≡ point.is_wrong (rows_of (found_of line.now)) }
@@ -163,9 +203,11 @@ pub fn is_wrong(line: &ArgMatches<'_>) -> bool
         || has_wrong_numbers(line)
         || has_wrong_policy(line)
         || has_wrong_input(line)
+        || has_wrong_format(line)
         || mixes_run(line)
         || mixes_source(line)
         || has_odd_name(line, "file")
         || has_odd_name(line, "x-run")
         || has_odd_name(line, "include")
+        || has_odd_output(line)
 }

@@ -39,7 +39,7 @@ use Rattle.lx_layout.proofs.Supplied.StateRuns.{IsFoundAgain}
 abbrev unmatched_at : (cond : List ℕ) → (cursor : ℕ) → List Value → Ended
 unmatched_at cond cursor values = record { outcome = no_rule; cursor = cursor; cond = cond; values = values }
 
-module _ (supply : Supply) (halting : Halting) (endings : ℕ → Ending) (greatest : ℕ) (auto : Auto) (piece : Piece) (place saved rules : ℕ → ℕ) (fall : ℕ)
+module _ (supply : Supply) (halting : Halting) (endings : ℕ → Ending) (greatest : ℕ) (auto : Auto) (piece : Piece) (place : ℕ → ℕ) (saved : Option (ℕ → ℕ)) (rules : ℕ → ℕ) (fall : ℕ)
     (end_rule : Option ℕ) (serves : Serves supply halting endings greatest auto (code_of piece.blocks) place saved rules fall end_rule) (formed : IsAuto auto) (stream : List ℕ)
     (answers : List Answer) where
   abbrev pub Has : ℕ → List Stmt → Type 0
@@ -108,7 +108,7 @@ module _ (supply : Supply) (halting : Halting) (endings : ℕ → Ending) (great
       ends_telling piece stream
       (walk_ends piece stream
       (fallback_walk piece stream answers (halting.falls 0) serves.choices found.0 (restore_code (rules left.accept.rule)) machine
-      (ap (λ n. chosen (halting.falls 0) serves.choices n) has.0 ∙ found.1) found.2)
+      (found.1 machine.accept has.0) found.2)
       (ends_quiet piece stream Restore refl refl refl
       (jump_ends left.accept (record machine { cursor = machine.marker }) bank ends is agree none)))
       (ap (λ n. told_by machine.cond left.accept n bank) has.1)

@@ -40,7 +40,7 @@ module _ (piece : Piece) (stream : List ℕ) (answers : List Answer) where
     pub unit : Option ℕ
     pub walks : Walks piece stream peeks code machine answers to (record machine { state = state; unit = unit })
 
-  module _ (supply : Supply) (halting : Halting) (endings : ℕ → Ending) (greatest : ℕ) (auto : Auto) (place saved rules : ℕ → ℕ) (fall : ℕ) (reader : Reader) (units block : ℕ)
+  module _ (supply : Supply) (halting : Halting) (endings : ℕ → Ending) (greatest : ℕ) (auto : Auto) (place : ℕ → ℕ) (saved : Option (ℕ → ℕ)) (rules : ℕ → ℕ) (fall : ℕ) (reader : Reader) (units block : ℕ)
       (Leads : (unit block : ℕ) → Type 0) (Ends : ℕ → Type 0)
       (target_code : (unit to : ℕ) → Leads unit to → (code : List Stmt) × (code_at piece.blocks (Some to) ≡ Some code)) where
     abbrev Serves : Type 0

@@ -18,7 +18,7 @@ use Rattle.lx_ccode.specs.Scanners.{IsMadeBy, IsOfScanner, StandsIn}
 use Rattle.lx_ccode.specs.Statements.{code_of}
 use Rattle.lx_ccode.proofs.TraceSteps.{LeadsSo, goto_step}
 use Rattle.lx_layout.specs.Carries.{Carries, EndsAs, GoesBy, HasEdge, IsUnitOf, NamesItsOwn, ReadsAs, StopsAs}
-use Rattle.lx_layout.specs.Codes.{accept_code}
+use Rattle.lx_layout.specs.Codes.{accept_code, saved_by}
 use Rattle.lx_layout.specs.Endings.{Ending, ending_code}
 use Rattle.lx_layout.specs.Fallback.{edge_code, fallback_code}
 use Rattle.lx_layout.specs.Supplied.{EndsBy, IsEnd, IsTarget, Serves, ServesEntry, ServesReader, ServesState, ends, goes, reads}
@@ -42,7 +42,7 @@ block_within [] block code is = absurd cc
 block_within (first ∷ blocks) zero code is = omega arith
 block_within (first ∷ blocks) (suc block) code is = let within = block_within blocks block code is in omega (arith, within)
 
-module _ (supply : Supply) (halting : Halting) (endings : ℕ → Ending) (greatest : ℕ) (auto : Auto) (piece : Piece) (place saved rules : ℕ → ℕ) (fall : ℕ)
+module _ (supply : Supply) (halting : Halting) (endings : ℕ → Ending) (greatest : ℕ) (auto : Auto) (piece : Piece) (place : ℕ → ℕ) (saved : Option (ℕ → ℕ)) (rules : ℕ → ℕ) (fall : ℕ)
     (end_rule : Option ℕ) (entry : ℕ) (serves : Serves supply halting endings greatest auto (code_of piece.blocks) place saved rules fall end_rule)
     (serves_entry : ServesEntry supply halting endings greatest auto (code_of piece.blocks) place saved rules fall end_rule entry) (formed : IsAuto auto)
     (fits : FitsTable supply.among piece) where
@@ -82,7 +82,7 @@ module _ (supply : Supply) (halting : Halting) (endings : ℕ → Ending) (great
   target_code : (number : ℕ) → number < length auto.states → (o : Option Edge) (block : ℕ) → Target number o block
       → (code : List Stmt) × Code block code
   target_code number lt None block target = end_code number lt block target
-  target_code number lt (Some edge) block target = (edge_code halting auto (state_at number) (saved number) edge (place edge.to), target)
+  target_code number lt (Some edge) block target = (edge_code halting auto (state_at number) (saved_by saved number) edge (place edge.to), target)
 
   -- this reader reads units as the state with this number does
   abbrev ReadsLike : (number : ℕ) → Reader → (units block : ℕ) → (Stops : ℕ → Type 0) → Type 0
@@ -134,7 +134,7 @@ module _ (supply : Supply) (halting : Halting) (endings : ℕ → Ending) (great
         (state_formed auto standing.state formed).lead on in
         let next = state_code edge.to leads.0 in
         let here : Machine = record machine { state = enters.state; unit = enters.unit } in
-        let own : List Stmt = edge_code halting auto (state_at standing.state) (saved standing.state) edge (place edge.to) in
+        let own : List Stmt = edge_code halting auto (state_at standing.state) (saved_by saved standing.state) edge (place edge.to) in
         let target : Code enters.block own = enters.target in
         let has = enters.has in
         let same : own ≡ enters.to = cc in

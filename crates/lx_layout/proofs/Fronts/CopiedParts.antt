@@ -66,6 +66,7 @@ module _ (front : Front) (input : PartInput) (by : ℕ) (is : IsFront front) (li
             subst (λ n. AreHalting n input.end_rule input.greatest (renumbered by input.auto.now) halting) (sym eof)
             (subst (λ n. AreHalting own.demand.eof input.end_rule n (renumbered by input.auto.now) halting) (sym like.greatest)
             (subst (λ (a : Auto). AreHalting own.demand.eof input.end_rule own.greatest (renumbered by a) halting) (sym like.auto) marked));
+        format = is.ends.plans.format ∙ ap (λ (d : Demand). d.format) (sym like.demand);
         trees =
             subst (λ (d : Demand). EachReader (AreTestsOf d.format d.table d.eof input.greatest) d.eof input.greatest trees (renumbered by input.auto.now)) (sym like.demand)
             (subst (λ n. EachReader (AreTestsOf format table own.demand.eof n) own.demand.eof n trees (renumbered by input.auto.now)) (sym like.greatest)

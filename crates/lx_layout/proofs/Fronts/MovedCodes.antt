@@ -14,8 +14,8 @@ use Rattle.lx_sequence.specs.ParallelCopies.{sequentialized}
 use Rattle.lx_layout.specs.Codes.{accept_code, list_code, op_code, ops_code, restore_code, save_code}
 use Rattle.lx_layout.specs.Copies.{StoredBehind, moved, moved_codes}
 use Rattle.lx_layout.specs.Fallback.{edge_code, fallback_code}
-use Rattle.lx_layout.specs.Halting.{Halting, any_falls, saved_accepts, saves_on}
-use Rattle.lx_layout.specs.Layout.{choices_from, end_blocks, lone_blocks, lone_code, own_blocks, restore_blocks, saved_number}
+use Rattle.lx_layout.specs.Halting.{Halting, any_falls, saved_accepts, saves_on, kept_number}
+use Rattle.lx_layout.specs.Layout.{choices_from, end_blocks, lone_blocks, lone_code, own_blocks, restore_blocks}
 use Rattle.lx_layout.specs.SuppliedLayout.{class_blocks, fallback_part, kept}
 use Rattle.lx_layout.specs.Supplies.{Reader, back_code, end_test, need_code, store_code, try_code}
 
@@ -52,14 +52,15 @@ module _ (by stored : ℕ) where
       → list_code auto ops rest_on ≡ map (moved by stored) (list_code auto ops rest)
   list_code-moved auto ops rest rest_on e = ops_code-moved (sequentialized auto.regs auto.mregs ops) rest rest_on e
 
-  save_code-moved : (saves : Bool) (saved : ℕ) (rest rest_on : List Stmt) → rest_on ≡ map (moved by stored) rest
+  save_code-moved : (saves : Bool) (saved : Option ℕ) (rest rest_on : List Stmt) → rest_on ≡ map (moved by stored) rest
       → save_code saves saved rest_on ≡ map (moved by stored) (save_code saves saved rest)
   save_code-moved false saved rest rest_on e = e
-  save_code-moved true saved rest rest_on e = ap (λ code. Backup ∷ SaveAccept saved ∷ code) e
+  save_code-moved true None rest rest_on e = ap (λ code. Backup ∷ code) e
+  save_code-moved true (Some saved) rest rest_on e = ap (λ code. Backup ∷ SaveAccept saved ∷ code) e
 
   -- ---- edges, and the ends of matches
 
-  edge_code-moved : (halting : Halting) (auto : Auto) (given : State) (saved : ℕ) (edge : Edge) (block block_on : ℕ) → block_on ≡ block + by
+  edge_code-moved : (halting : Halting) (auto : Auto) (given : State) (saved : Option ℕ) (edge : Edge) (block block_on : ℕ) → block_on ≡ block + by
       → edge_code halting auto given saved edge block_on ≡ map (moved by stored) (edge_code halting auto given saved edge block)
   edge_code-moved halting auto given saved edge block block_on e =
       save_code-moved (saves_on halting given edge) saved (list_code auto given.leave (list_code auto edge.ops (Skip ∷ Goto block ∷ [])))
@@ -75,7 +76,7 @@ module _ (by stored : ℕ) where
   class_blocks-moved halting auto saved place place_on e given [] = refl
   class_blocks-moved halting auto saved place place_on e given (class ∷ classes) =
       ap₂ (λ a b. a ∷ b)
-      (edge_code-moved halting auto given (saved_number saved given.accept) class (place class.to) (place_on class.to) (e class.to))
+      (edge_code-moved halting auto given (kept_number halting saved given.accept) class (place class.to) (place_on class.to) (e class.to))
       (class_blocks-moved halting auto saved place place_on e given classes)
 
   accept_code-moved : (auto : Auto) (ops : List Op) (block block_on : ℕ) → block_on ≡ block + by

@@ -1,15 +1,17 @@
 -- What depends on the numbers of rules alone, where each of them is greater by so much: the places of rules, and the accepts of states.
-use Rattle.std.specs.Prelude.{◌≡◌, ℕ, zero, suc, ◌+◌, Bool, true, false, ◌&&◌, ◌||◌, List, [], ◌∷◌, ◌++◌, map, Option, Some, None, option_map, is_some, nat_eq, refl, if◌then◌else◌}
+use Rattle.std.specs.Prelude.{◌≡◌, ℕ, zero, suc, ◌+◌, Bool, true, false, ◌&&◌, ◌||◌, List, [], ◌∷◌, ◌++◌, map, Option, Some, None, option_map, is_some, nat_eq, refl, if◌then◌else◌, nat_lt}
 use Rattle.std.proofs.Common.{sym, ap, ap₂, ◌∙◌, arith, eq-eqb, ne_eqb, eqb-true}
 use Rattle.std.proofs.lemmas.Bool.{eqb-false}
-use Rattle.std.proofs.lemmas.List.{map-append}
+use Rattle.std.proofs.lemmas.List.{map-append, length-map}
 use Rattle.std.specs.List.{list_any}
 use Rattle.lx_auto.specs.Automaton.{state_of}
 use Rattle.lx_auto.specs.declared.automaton.Accept.{Accept}
 use Rattle.lx_auto.specs.declared.automaton.State.{State}
-use Rattle.lx_layout.specs.Halting.{Halting, any_falls, ended_accept, ended_accepts, firsts_from, halted_accept, is_saved, saved_accept, saved_accepts}
+use Rattle.lx_layout.specs.Halting.{Halting, any_falls, ended_accept, ended_accepts, firsts_from, halted_accept, is_saved, saved_accept, saved_accepts, keeps_numbers, kept_number}
 use Rattle.lx_layout.specs.Layout.{choices_from, has_rule, rule_place, saved_number, with_accept}
 use Rattle.lx_renumber.specs.Renumbered.{renumbered_accept, renumbered_state}
+use Rattle.lx_base.specs.declared.settings.Format.{Format}
+use Rattle.lx_base.specs.declared.settings.Format.TheVariants.{Three, Two}
 
 module _ (by : ℕ) where
   -- greater numbers are equal just where the numbers are
@@ -54,6 +56,18 @@ module _ (by : ℕ) where
       → saved_number (all accepts) (each accept) ≡ saved_number accepts accept
   saved_number-renumbered accepts None = refl
   saved_number-renumbered accepts (Some accept) = ap suc (rule_place-renumbered accepts accept.rule)
+
+  keeps_numbers-renumbered : (halting : Halting) (format : Format) (accepts : List Accept)
+      → keeps_numbers halting format (all accepts) ≡ keeps_numbers halting format accepts
+  keeps_numbers-renumbered halting Two accepts = refl
+  keeps_numbers-renumbered halting Three accepts =
+      ap (λ n. halting.falls 0 || nat_lt 1 n) (length-map accepts (renumbered_accept by))
+
+  pub kept_number-renumbered : (halting : Halting) (accepts : List Accept) (accept : Option Accept)
+      → kept_number halting (all accepts) (each accept) ≡ kept_number halting accepts accept
+  kept_number-renumbered halting accepts accept =
+      ap₂ (λ t number. if t then Some number else None) (keeps_numbers-renumbered halting halting.format accepts)
+      (saved_number-renumbered accepts accept)
 
   pub choices_from-renumbered : (saved block : ℕ) (accepts : List Accept)
       → choices_from saved block (all accepts) ≡ choices_from saved block accepts

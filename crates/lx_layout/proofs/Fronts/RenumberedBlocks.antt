@@ -10,15 +10,15 @@ use Rattle.lx_ccode.specs.declared.piece.Stmt.{Stmt}
 use Rattle.lx_ccode.specs.declared.piece.Stmt.TheVariants.{Goto, Skip}
 use Rattle.lx_layout.specs.Codes.{list_code, save_code}
 use Rattle.lx_layout.specs.Fallback.{edge_code}
-use Rattle.lx_layout.specs.Halting.{Halting, halted_accept, saves_on}
-use Rattle.lx_layout.specs.Layout.{class_block, end_block, end_blocks, lone_blocks, lone_place, saved_number}
+use Rattle.lx_layout.specs.Halting.{Halting, halted_accept, saves_on, kept_number}
+use Rattle.lx_layout.specs.Layout.{class_block, end_block, end_blocks, lone_blocks, lone_place}
 use Rattle.lx_layout.specs.SuppliedLayout.{at_end_blocks, blocks_at_end, blocks_by, class_blocks, entry_blocks, entry_tests_size, entry_way, kept, lone_number, own_end, place_by, place_in, reader_blocks, refill_blocks, state_end, state_size, state_to, state_way, states_blocks, tests_of, turn_begin, turn_of, with_blocks}
 use Rattle.lx_layout.specs.Supplies.{Reader, Supply, entry, state as by_state}
 use Rattle.lx_dispatch.specs.TestTrees.{TestTree, fork, leaf, switch, test}
 use Rattle.lx_dispatch.specs.TransitionClasses.{edge_class, same_place, transition_classes}
 use Rattle.lx_renumber.specs.Renumbered.{renumbered, renumbered_accept, renumbered_state}
 use Rattle.lx_dispatch.proofs.Cases.{cases_by-same}
-use Rattle.lx_layout.proofs.Fronts.RenumberedAccepts.{all, halted-renumbered, is_some-renumbered, saved_number-renumbered}
+use Rattle.lx_layout.proofs.Fronts.RenumberedAccepts.{all, halted-renumbered, is_some-renumbered, kept_number-renumbered}
 use Rattle.lx_layout.proofs.Fronts.RenumberedEnds.{end_block-renumbered, end_blocks-renumbered, lone_blocks-renumbered, lone_place-renumbered}
 use Rattle.lx_layout.proofs.Fronts.RenumberedMarks.{is_entered-renumbered}
 use Rattle.lx_layout.proofs.Fronts.RenumberedSizes.{classes_begin-renumbered, lone_number-renumbered, own_end-renumbered, state_size-renumbered, turn_begin-renumbered}
@@ -52,15 +52,15 @@ at_end_blocks-same supply reader block here first second same end =
 module _ (by : ℕ) (halting : Halting) (auto : Auto) (saved : List Accept) (first second : ℕ → ℕ)
     (same : (number : ℕ) → first number ≡ second number) where
   edge_code-renumbered : (given : State) (edge : Edge)
-      → edge_code halting (renumbered by auto) (renumbered_state by given) (saved_number (all by saved) (renumbered_state by given).accept)
+      → edge_code halting (renumbered by auto) (renumbered_state by given) (kept_number halting (all by saved) (renumbered_state by given).accept)
       edge (first edge.to)
-      ≡ edge_code halting auto given (saved_number saved given.accept) edge (second edge.to)
+      ≡ edge_code halting auto given (kept_number halting saved given.accept) edge (second edge.to)
   edge_code-renumbered given edge =
       ap₂ (λ t number. edge_code_by t number (first edge.to)) (ap (λ t. t && halting.falls edge.to) (is_some-renumbered by given.accept))
-      (saved_number-renumbered by saved given.accept)
-      ∙ ap (λ block. edge_code_by (saves_on halting given edge) (saved_number saved given.accept) block) (same edge.to)
+      (kept_number-renumbered by halting saved given.accept)
+      ∙ ap (λ block. edge_code_by (saves_on halting given edge) (kept_number halting saved given.accept) block) (same edge.to)
     where
-      edge_code_by : Bool → (number block : ℕ) → List Stmt
+      edge_code_by : Bool → (number : Option ℕ) (block : ℕ) → List Stmt
       edge_code_by t number block = save_code t number (list_code auto given.leave (list_code auto edge.ops (Skip ∷ Goto block ∷ [])))
 
   pub class_blocks-renumbered : (given : State) (classes : List Edge)

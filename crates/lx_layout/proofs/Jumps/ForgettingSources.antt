@@ -161,6 +161,7 @@ module _ (form : Form) (table : List ℕ) where
       is = ap {A = Given} (λ given. record given { endings = forgetting_by true given.endings }) are.0.is
           ∙ ap {B = Given} (λ t. record (given_of form table scanner) { endings = forgetting_by t scanner.endings }) (sym some);
       marked = are.0.marked;
+      format = are.0.format;
       trees = are.0.trees;
     },
     forgetful_parts blocks some scanners parts are.1,

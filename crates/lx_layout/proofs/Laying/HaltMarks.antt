@@ -11,6 +11,7 @@ use Rattle.lx_auto.specs.declared.automaton.State.{State}
 use Rattle.lx_layout.specs.Halting.{AreHalting, Falls, Halting, Halts, at_end, bare, is_entered, lone}
 use Rattle.lx_layout.specs.Halting as halting
 use Rattle.lx_layout.specs.Marks.{AreFalls, FallsFrom, bare_from, halts_by, halts_from, here, onward}
+use Rattle.lx_base.specs.declared.settings.Format.{Format}
 
 -- ---- a unit without an edge
 
@@ -162,11 +163,11 @@ module _ (eof end_rule : Option ℕ) (greatest : ℕ) (auto : Auto) where
     falls_of _ (here number within none halt) = halting.here number none ((right number within).0 halt)
     falls_of _ (onward number edge within none among next) = halting.onward number edge none among (falls_of edge.to next)
 
-  pub are_halting : IsAuto auto → (entered : Bool) → entered ≡ is_entered end_rule auto 0 → (halts falls : List Bool)
+  pub are_halting : (format : Format) → IsAuto auto → (entered : Bool) → entered ≡ is_entered end_rule auto 0 → (halts falls : List Bool)
       → halts ≡ halts_from greatest (is_some eof) entered 0 auto.states → AreFalls halts auto.states falls
       → AreHalting eof end_rule greatest auto
-      (record { halts = λ number. slice_index_or halts number false; falls = λ number. slice_index_or falls number false })
-  are_halting formed entered entered_is halts falls halts_are are =
+      (record { halts = λ number. slice_index_or halts number false; falls = λ number. slice_index_or falls number false; format = format })
+  are_halting format formed entered entered_is halts falls halts_are are =
       record { halts = right; falls = λ number within. falls_right number within }
     where
       right : (number : ℕ) → number < length auto.states → slice_index_or halts number false ≡ true ↔ Halts eof end_rule greatest auto number

@@ -99,7 +99,7 @@ module _ (plans : PartPlans) (are : ArePlans plans) where
   part_laid input is begin first begin_is first_is old new put = (
     record { given = seen_given input; halting = halting_at plans; trees = trees_at plans },
     subst (λ (i : PartInput). IsPartOf i.greatest (seen_given i) (record { given = seen_given i; halting = halting_at plans; trees = trees_at plans })) is
-        (record { is = refl; marked = are.marked; trees = trees_planned }),
+        (record { is = refl; marked = are.marked; format = are.format; trees = trees_planned }),
     put ∙ ap (λ (i : PartInput). old ++ labelled input.cond.now (codes i plans.begin plans.first)) is
         ∙ ap (λ b. old ++ labelled input.cond.now (codes input b plans.first)) begin_is
         ∙ ap (λ f. old ++ labelled input.cond.now (codes input begin f)) first_is,

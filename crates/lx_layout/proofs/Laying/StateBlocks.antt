@@ -1,5 +1,5 @@
 -- The blocks of a state, one behind another.
-use Rattle.std.specs.Prelude.{◌≡◌, ℕ, zero, suc, ◌+◌, ◌<◌, List, [], ◌∷◌, ◌++◌, length, drop, slice_index_or, None, Bool, true, false, ◌&&◌, refl}
+use Rattle.std.specs.Prelude.{◌≡◌, ℕ, zero, suc, ◌+◌, ◌<◌, List, [], ◌∷◌, ◌++◌, length, drop, slice_index_or, None, Bool, true, false, ◌&&◌, refl, Option, Some}
 use Rattle.std.proofs.Common.{ap, ap₂, sym, ◌∙◌, arith, append_assoc}
 use Rattle.std.proofs.lemmas.List.{drop_more}
 use Rattle.lx_auto.specs.declared.automaton.Auto.{Auto}
@@ -10,9 +10,9 @@ use Rattle.lx_ccode.specs.declared.piece.Stmt.{Stmt}
 use Rattle.lx_ccode.specs.declared.piece.Stmt.TheVariants.{Goto, Skip}
 use Rattle.lx_layout.specs.Codes.{list_code, save_code}
 use Rattle.lx_layout.specs.Fallback.{edge_code}
-use Rattle.lx_layout.specs.Halting.{Halting, halted_accept, is_entered, saves_on}
+use Rattle.lx_layout.specs.Halting.{Halting, halted_accept, is_entered, saves_on, kept_number}
 use Rattle.lx_layout.specs.LaidParts.{class_blocks, fall_at, halting_at, place_of, places_from, rule_at, saved_at, seen_demand, size_at, state_blocks, states_blocks, supply_at, tests_blocks, trees_at, turn_blocks, given_at}
-use Rattle.lx_layout.specs.Layout.{end_blocks, saved_number}
+use Rattle.lx_layout.specs.Layout.{end_blocks}
 use Rattle.lx_layout.specs.Parts.{asks_by, asks_with, state_asks}
 use Rattle.lx_layout.specs.Plans.{unlabelled}
 use Rattle.lx_layout.specs.SuppliedLayout as layouts
@@ -25,11 +25,12 @@ use Rattle.lx_layout.proofs.BlockLayouts.BlockLoops.{list_code-append, unlabelle
 
 -- ---- an edge
 
-save_code-append : (saves : Bool) (saved : ℕ) (rest : List Stmt) → save_code saves saved rest ≡ save_code saves saved [] ++ rest
+save_code-append : (saves : Bool) (saved : Option ℕ) (rest : List Stmt) → save_code saves saved rest ≡ save_code saves saved [] ++ rest
 save_code-append false saved rest = refl
-save_code-append true saved rest = refl
+save_code-append true None rest = refl
+save_code-append true (Some saved) rest = refl
 
-pub edge_code-parts : (halting : Halting) (auto : Auto) (given : State) (saved : ℕ) (edge : Edge) (block : ℕ)
+pub edge_code-parts : (halting : Halting) (auto : Auto) (given : State) (saved : Option ℕ) (edge : Edge) (block : ℕ)
     → (((save_code (saves_on halting given edge) saved [] ++ list_code auto given.leave []) ++ list_code auto edge.ops []) ++ Skip ∷ [])
     ++ Goto block ∷ [] ≡ edge_code halting auto given saved edge block
 edge_code-parts halting auto given saved edge block =
@@ -72,7 +73,7 @@ module _ (classes : List TransitionClass) (index : ℕ) (class : TransitionClass
 
   pub classes-more : (plans : PartPlans) (given : State) (code : List Stmt) (front next whole : List CodeBlock)
       → next ≡ front ++ unlabelled (code ∷ []) → front ++ unlabelled (class_blocks plans given (seen_classes (drop index classes))) ≡ whole
-      → code ≡ edge_code (halting_at plans) plans.input.auto.now given (saved_number (saved_at plans) given.accept) class.edge.now (place_of plans class.edge.now.to)
+      → code ≡ edge_code (halting_at plans) plans.input.auto.now given (kept_number (halting_at plans) (saved_at plans) given.accept) class.edge.now (place_of plans class.edge.now.to)
       → next ++ unlabelled (class_blocks plans given (seen_classes (drop (index + 1) classes))) ≡ whole
   classes-more plans given code front next whole put before e =
       let rest : List (List Stmt) = class_blocks plans given (seen_classes (drop (index + 1) classes)) in

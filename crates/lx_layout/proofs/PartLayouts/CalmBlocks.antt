@@ -24,7 +24,7 @@ use Rattle.lx_dispatch.specs.TestTrees.{Question, TestTree, fork, leaf, switch, 
 use Rattle.lx_layout.specs.TreeCodes.{asks, inner_blocks, inner_size, tree_code}
 use Rattle.lx_layout.proofs.BlockLayouts.Questions.{any_question}
 use Rattle.lx_layout.proofs.PartLayouts.EndingStatements.{EachTag, HoldsOfEnds, ending_each}
-use Rattle.lx_layout.proofs.PartLayouts.PlainBlocks.{HoldsOfPlain, OfAccept, OfAccepts, plain-classes, plain-end, plain-lone, plain-rest}
+use Rattle.lx_layout.proofs.PartLayouts.PlainBlocks.{HoldsOfPlain, OfAccept, OfAccepts, plain-classes, plain-end, plain-lone, plain-rest, kept_number-of}
 use Rattle.lx_layout.proofs.PartLayouts.StatementSorts.{PlainStatements, plain_statements}
 use Rattle.lx_layout.proofs.Validity.EachElement.{each-append}
 
@@ -147,7 +147,7 @@ module _ (halting : Halting) (endings : ℕ → Ending) (auto : Auto) where
       record {
         jumps = all.jumps;
         edges = λ given saved block edge is any.
-            all.edges given saved block edge tt
+            all.edges given saved block edge is
             (calm_ops (sequentialized auto.regs auto.mregs given.leave), calm_ops (sequentialized auto.regs auto.mregs edge.ops));
         accepts = λ accept block any.
             all.accepts accept block
@@ -177,7 +177,7 @@ module _ (halting : Halting) (endings : ℕ → Ending) (auto : Auto) where
       → AllByRecursion Calm (class_blocks halting auto saved place given classes)
   calm_classes saved place given classes =
       plain-classes Calm (λ saved. Unit {0}) (λ given edge. Unit {0}) (λ accept. Unit {0}) (λ rule. Unit {0}) halting endings auto calm_plain saved place
-      given classes tt (all_any classes)
+      given classes (kept_number-of (λ saved. Unit {0}) halting saved given.accept tt) (all_any classes)
 
   pub calm_rest : (rules : ℕ → ℕ) (first : ℕ) (end_rule : Option ℕ)
       → AllByRecursion Calm (fallback_part halting auto first

@@ -14,7 +14,7 @@ use Rattle.lx_layout.specs.SuppliedLayout.{at_end_blocks, blocks_by, class_block
 use Rattle.lx_layout.specs.Supplies.{Reader, Supply, entry, state}
 use Rattle.lx_dispatch.specs.TestTrees.{Asked, TestTree}
 use Rattle.lx_dispatch.specs.TransitionClasses.{transition_classes}
-use Rattle.lx_layout.proofs.PartLayouts.PlainBlocks.{HoldsOfPlain, OfAccept, of_classes, of_halted, plain-classes, plain-end, plain-lone, plain-rest, saved_number-few}
+use Rattle.lx_layout.proofs.PartLayouts.PlainBlocks.{HoldsOfPlain, OfAccept, of_classes, of_halted, plain-classes, plain-end, plain-lone, plain-rest, saved_number-few, kept_number-of}
 use Rattle.lx_layout.proofs.PartLayouts.ReaderBlocks.{EachUnit, HoldsOfReaders, reader-tests, reader-turn, units-with_blocks}
 use Rattle.lx_layout.proofs.Validity.EachElement.{each-append}
 
@@ -72,7 +72,8 @@ module _ (P : List Stmt → Type 0) (G : Asked → Type 0) (R : Reader → Type 
           (units-with_blocks G (state_way supply halting end_rule trees auto rules fall begin number from given) (trees (state number)) h.units)))
           (each-append P classes_row (turn_row ++ end_row)
           (plain-classes P S E A D halting endings auto asks.plain (saved_accepts halting auto.states) place given (transition_classes (edge ∷ edges))
-          (asks.saved (saved_number (saved_accepts halting auto.states) given.accept) (saved_number-few (saved_accepts halting auto.states) given.accept))
+          (kept_number-of S halting (saved_accepts halting auto.states) given.accept
+          (asks.saved (saved_number (saved_accepts halting auto.states) given.accept) (saved_number-few (saved_accepts halting auto.states) given.accept)))
           (of_classes (E given) [] (edge ∷ edges) tt are))
           (each-append P turn_row end_row
           (each-kept P (is_entered end_rule auto number) _

@@ -12,7 +12,7 @@ use Rattle.lx_ccode.specs.declared.piece.Stmt.TheVariants.{Goto}
 use Rattle.lx_layout.specs.Codes.{Choice, accept_code, restore_code}
 use Rattle.lx_layout.specs.Endings.{Ending, ending_code}
 use Rattle.lx_layout.specs.Fallback.{edge_code, fallback_code}
-use Rattle.lx_layout.specs.Halting.{Halting, any_falls, ended_accept, ended_accepts, firsts_from, halted_accept, is_saved, saved_accept, saved_accepts}
+use Rattle.lx_layout.specs.Halting.{Halting, any_falls, ended_accept, ended_accepts, firsts_from, halted_accept, is_saved, saved_accept, saved_accepts, keeps_numbers, kept_number}
 use Rattle.lx_layout.specs.Layout.{choices_from, end_blocks, ending_blocks, has_rule, lone_blocks, own_blocks, restore_blocks, rule_place, saved_number, with_accept}
 use Rattle.lx_layout.specs.SuppliedLayout.{class_blocks, end_rule_part, fallback_part, kept}
 use Rattle.lx_dispatch.specs.TransitionClasses.{classes_onto, has_class}
@@ -94,6 +94,19 @@ pub saved_number-few : (accepts : List Accept) (o : Option Accept) → saved_num
 saved_number-few accepts None = omega arith
 saved_number-few accepts (Some accept) = let le = place_within accepts accept.rule in omega (arith, le)
 
+-- of the number by which a state is saved, if it is kept
+abbrev pub OfKept : (S : ℕ → Type 0) → Option ℕ → Type 0
+OfKept S None = Unit {0}
+OfKept S (Some saved) = S saved
+
+pub kept_number-of : (S : ℕ → Type 0) (halting : Halting) (accepts : List Accept) (o : Option Accept) → S (saved_number accepts o)
+    → OfKept S (kept_number halting accepts o)
+kept_number-of S halting accepts o h = by (keeps_numbers halting halting.format accepts)
+  where
+    by : (t : Bool) → OfKept S (if t then Some (saved_number accepts o) else None)
+    by true = h
+    by false = tt
+
 -- what holds of edges holds of their classes
 pub of_classes : (Q : Edge → Type 0) (found edges : List Edge) → AllByRecursion Q found → AllByRecursion Q edges
     → AllByRecursion Q (classes_onto found edges)
@@ -112,7 +125,7 @@ module _ (P : List Stmt → Type 0) (S : ℕ → Type 0) (E : State → Edge →
     (endings : ℕ → Ending) (auto : Auto) where
   pub record HoldsOfPlain : Type 0 where
     pub jumps : (block : ℕ) → P (Goto block ∷ [])
-    pub edges : (given : State) (saved block : ℕ) (edge : Edge) → S saved → E given edge → P (edge_code halting auto given saved edge block)
+    pub edges : (given : State) (saved : Option ℕ) (block : ℕ) (edge : Edge) → OfKept S saved → E given edge → P (edge_code halting auto given saved edge block)
     pub accepts : (accept : Accept) (block : ℕ) → A accept → P (accept_code auto accept.ops block)
     pub choices : (leaves : Bool) (choices : List Choice) → AllByRecursion (λ (choice : Choice). S choice.saved) choices
         → P (fallback_code leaves choices)
@@ -121,11 +134,11 @@ module _ (P : List Stmt → Type 0) (S : ℕ → Type 0) (E : State → Edge →
     pub end_rule : (rule : ℕ) → D rule → P (ending_code endings rule [])
 
   module _ (holds : HoldsOfPlain) where
-    pub plain-classes : (saved : List Accept) (place : ℕ → ℕ) (given : State) (classes : List Edge) → S (saved_number saved given.accept)
+    pub plain-classes : (saved : List Accept) (place : ℕ → ℕ) (given : State) (classes : List Edge) → OfKept S (kept_number halting saved given.accept)
         → AllByRecursion (E given) classes → AllByRecursion P (class_blocks halting auto saved place given classes)
     plain-classes saved place given [] few h = tt
     plain-classes saved place given (class ∷ classes) few h = (
-      holds.edges given (saved_number saved given.accept) (place class.to) class few h.0,
+      holds.edges given (kept_number halting saved given.accept) (place class.to) class few h.0,
       plain-classes saved place given classes few h.1,
     )
 

@@ -16,7 +16,7 @@ use Rattle.lx_layout.specs.Halting.{Halting, saves_on}
 use Rattle.lx_layout.specs.Supplies.{Reader, Supply, need_code, store_code}
 use Rattle.lx_dispatch.specs.TestTrees.{Asked, Question, by_cases, by_question}
 use Rattle.lx_layout.specs.TreeCodes.{asks, switch_cases}
-use Rattle.lx_layout.proofs.PartLayouts.PlainBlocks.{HoldsOfPlain}
+use Rattle.lx_layout.proofs.PartLayouts.PlainBlocks.{HoldsOfPlain, OfKept}
 use Rattle.lx_layout.proofs.PartLayouts.ReaderBlocks.{HoldsOfReaders}
 
 -- States are saved by numbers of some sort.
@@ -51,9 +51,10 @@ module _ (Q : Stmt → Type 0) (S : ℕ → Type 0) (halting : Halting) (endings
     list_each : (ops : List Op) (rest : List Stmt) → OfOps ops → AllByRecursion Q rest → AllByRecursion Q (list_code auto ops rest)
     list_each ops rest are h = ops_each (sequentialized auto.regs auto.mregs ops) rest are h
 
-    save_each : (saves : Bool) (saved : ℕ) (rest : List Stmt) → S saved → AllByRecursion Q rest → AllByRecursion Q (save_code saves saved rest)
+    save_each : (saves : Bool) (saved : Option ℕ) (rest : List Stmt) → OfKept S saved → AllByRecursion Q rest → AllByRecursion Q (save_code saves saved rest)
     save_each false saved rest is h = h
-    save_each true saved rest is h = (holds.backs_up, (holds.saves saved is, h))
+    save_each true None rest is h = (holds.backs_up, h)
+    save_each true (Some saved) rest is h = (holds.backs_up, (holds.saves saved is, h))
 
     choices_each : (leaves : Bool) (choices : List Choice) → AllByRecursion (λ (choice : Choice). S choice.saved) choices
         → AllByRecursion Q (fallback_code leaves choices)

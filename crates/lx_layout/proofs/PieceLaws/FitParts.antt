@@ -35,7 +35,7 @@ module _ (form : Form) (table : List ℕ) (conds : List (List ℕ)) where
   formed_part : IsTable table → (scanner : Source) (part : Part) → IsFitScanner form conds scanner → IsPartOf (greatest_unit form.enc) (given_of form table scanner) part
       → IsFormed (greatest_unit form.enc) (with_given part (given_of form table scanner))
   formed_part is_table scanner part fit is = record {
-    chosen = record { is = refl; marked = is.marked; trees = is.trees };
+    chosen = record { is = refl; marked = is.marked; format = is.format; trees = is.trees };
     auto = fit.formed;
     units = fit.units;
     ends = end_unit form conds scanner fit;

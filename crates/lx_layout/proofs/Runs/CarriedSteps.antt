@@ -1,5 +1,5 @@
 -- From stretches of a trace to what a piece that carries an automaton does.
-use Rattle.std.specs.Prelude.{◌≡◌, ℕ, ◌+◌, ◌<◌, ◌≤◌, Bool, List, [], ◌∷◌, Some, None}
+use Rattle.std.specs.Prelude.{◌≡◌, ℕ, ◌+◌, ◌<◌, ◌≤◌, Bool, List, [], ◌∷◌, Some, None, Option}
 use Rattle.std.proofs.Common.{arith, sym, ◌∙◌, subst}
 use Rattle.std.specs.List.{AllByRecursion}
 use Rattle.lx_auto.specs.Automaton.{state_of}
@@ -34,7 +34,7 @@ first_named {auto} statement registers histories written = record {
   empty = λ e. let h = sym written ∙ e in cc;
 }
 
-module _ (piece : Piece) (endings : ℕ → Ending) (auto : Auto) (place saved : ℕ → ℕ) (falls : ℕ → Bool) (stream : List ℕ) (code : List Stmt) (machine : Machine)
+module _ (piece : Piece) (endings : ℕ → Ending) (auto : Auto) (place : ℕ → ℕ) (saved : Option (ℕ → ℕ)) (falls : ℕ → Bool) (stream : List ℕ) (code : List Stmt) (machine : Machine)
     (answers : List Answer) (standing : Standing) where
   pub ends_as : (peeks : ℕ) → peeks ≤ 1
       → EndsSo piece stream peeks 0 code machine answers (told_found endings machine.cond (found_behind auto standing) standing.offset)

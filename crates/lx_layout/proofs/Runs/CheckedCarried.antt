@@ -25,18 +25,19 @@ use Rattle.lx_layout.specs.Supplies.{Supply}
 use Rattle.lx_dispatch.specs.TestTrees.{TestTree, at_most, leaf, picked, test}
 use Rattle.lx_layout.proofs.Carrying.SuppliedCarried.{supplied_carries}
 use Rattle.lx_layout.proofs.Runs.CarriedSteps.{nothing_named}
+use Rattle.lx_base.specs.declared.settings.Format.TheVariants.{Two}
 
 abbrev place : ℕ → ℕ
 place zero = 0
 place (suc zero) = 2
 place (suc (suc number)) = 5
 
-abbrev saved : ℕ → ℕ
-saved number = 1
+abbrev saved : Option (ℕ → ℕ)
+saved = Some (λ number. 1)
 
 -- a match can end in each state, and falls back from the first two
 abbrev halting : Halting
-halting = record { halts = λ number. true; falls = falls }
+halting = record { halts = λ number. true; falls = falls; format = Two }
   where
     falls : ℕ → Bool
     falls zero = true

@@ -27,17 +27,19 @@ use Rattle.lx_layout.specs.Supplies.{plain_supply}
 use Rattle.lx_dispatch.specs.TestTrees.{TestTree, at_most, fork, leaf, picked, test}
 use Rattle.lx_layout.proofs.Carrying.SuppliedCarried.{supplied_carries}
 use Rattle.lx_layout.proofs.Runs.CarriedSteps.{first_named, nothing_named}
+use Rattle.lx_base.specs.declared.settings.Format.TheVariants.{Two}
+use Rattle.lx_layout.specs.Fallback.{chosen}
 
 abbrev place : ℕ → ℕ
 place zero = 0
 place (suc number) = 3
 
-abbrev saved : ℕ → ℕ
-saved number = 1
+abbrev saved : Option (ℕ → ℕ)
+saved = Some (λ number. 1)
 
 -- a match can end in both states, and falls back from the first one
 abbrev halting : Halting
-halting = record { halts = λ number. true; falls = falls }
+halting = record { halts = λ number. true; falls = falls; format = Two }
   where
     falls : ℕ → Bool
     falls zero = true
@@ -204,7 +206,7 @@ module _ (names : Spellings) where
     bare = λ number lt falls. bare_there number falls;
     fallback = λ number lt falls. refl;
     none = λ falls. refl;
-    restores = λ number accept lt is e. (7, refl, refl);
+    restores = λ number accept lt is e. (7, λ kept is_kept. ap (λ n. chosen true (record { saved = 1; block = 7 } ∷ []) n) is_kept, refl);
     ends = λ number accept lt e ended. rule_stands number accept e;
   }
 

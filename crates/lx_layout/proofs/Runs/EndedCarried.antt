@@ -1,6 +1,6 @@
 -- The piece of `"a" ("ba")*` with the end of the stream, refills and stored states carries its automaton, which its blocks serve.
 use Rattle.std.specs.Prelude.{◌≡◌, ◌⊎◌, ℕ, zero, suc, ◌<◌, Bool, true, false, List, [], ◌∷◌, Option, Some, None, nat_le, refl, if◌then◌else◌}
-use Rattle.std.proofs.Common.{sym, subst, arith, inl, inr, leb-true, true≢false}
+use Rattle.std.proofs.Common.{sym, subst, arith, inl, inr, leb-true, true≢false, ap}
 use Rattle.std.specs.List.{AllByRecursion}
 use Rattle.lx_auto.specs.Automaton.{edge_on, state_of}
 use Rattle.lx_auto.specs.declared.automaton.Edge.{Edge}
@@ -23,6 +23,7 @@ use Rattle.lx_dispatch.specs.TestTrees.{TestTree, at_most, leaf, picked, test}
 use Rattle.lx_layout.proofs.Carrying.SuppliedCarried.{supplied_carries}
 use Rattle.lx_layout.proofs.Runs.CarriedSteps.{nothing_named}
 use Rattle.lx_layout.proofs.Runs.PairsCarried.{accepted_first, bare_there, edges_there, falls_there, halting, saved, low_last, low_none, on_first, on_last, paired_formed, to_first, to_second}
+use Rattle.lx_layout.specs.Fallback.{chosen}
 
 abbrev place : ℕ → ℕ
 place zero = 4
@@ -113,7 +114,7 @@ module _ (names : Spellings) where
     bare = λ number lt falls. bare_there number falls;
     fallback = λ number lt falls. refl;
     none = λ falls. refl;
-    restores = λ number accept lt is e. (15, refl, refl);
+    restores = λ number accept lt is e. (15, λ kept is_kept. ap (λ n. chosen true (record { saved = 1; block = 15 } ∷ []) n) is_kept, refl);
     ends = λ number accept lt e ended.
         accepted_first (λ accept. Has (rules accept.rule) (ending_code untagged accept.rule accept.values)) refl number accept e;
   }

@@ -79,13 +79,15 @@ machine_at cur mk lim u ac kept first k cond values = record {
   values = values;
 }
 
-abbrev pub save_size : (saves : Bool) → ℕ
-save_size false = 0
-save_size true = 2
+abbrev pub save_size : (saves : Bool) → (saved : Option ℕ) → ℕ
+save_size false saved = 0
+save_size true None = 1
+save_size true (Some saved) = 2
 
-pub length-save_code : (saves : Bool) (saved : ℕ) (b : List Stmt) → length (save_code saves saved b) ≡ save_size saves + length b
+pub length-save_code : (saves : Bool) (saved : Option ℕ) (b : List Stmt) → length (save_code saves saved b) ≡ save_size saves saved + length b
 length-save_code false saved b = omega arith
-length-save_code true saved b = omega arith
+length-save_code true None b = omega arith
+length-save_code true (Some saved) b = omega arith
 
 pub length-ops_code : (ops : List Op) (b : List Stmt) → length (ops_code ops b) ≡ length ops + length b
 length-ops_code [] b = omega arith

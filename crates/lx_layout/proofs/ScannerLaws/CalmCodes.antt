@@ -78,11 +78,12 @@ module _ (piece : Piece) (stream : List ℕ) (Stored : ℕ → Type 0) (n : ℕ)
   up_list : (auto : Auto) (ops : List Op) (rest : List Stmt) → Up rest → Up (list_code auto ops rest)
   up_list auto ops rest h = up_ops (sequentialized auto.regs auto.mregs ops) rest h
 
-  up_save : (saves : Bool) (saved : ℕ) (rest : List Stmt) → Up rest → Up (save_code saves saved rest)
+  up_save : (saves : Bool) (saved : Option ℕ) (rest : List Stmt) → Up rest → Up (save_code saves saved rest)
   up_save false saved rest h = h
-  up_save true saved rest h = up Backup (SaveAccept saved ∷ rest) refl (up (SaveAccept saved) rest refl h)
+  up_save true None rest h = up Backup rest refl h
+  up_save true (Some saved) rest h = up Backup (SaveAccept saved ∷ rest) refl (up (SaveAccept saved) rest refl h)
 
-  pub up_edge : (halting : Halting) (auto : Auto) (given : State) (saved : ℕ) (edge : Edge) (block : ℕ) → At block
+  pub up_edge : (halting : Halting) (auto : Auto) (given : State) (saved : Option ℕ) (edge : Edge) (block : ℕ) → At block
       → Up (edge_code halting auto given saved edge block)
   up_edge halting auto given saved edge block h =
       up_save (saves_on halting given edge) saved (list_code auto given.leave (list_code auto edge.ops (Skip ∷ Goto block ∷ [])))

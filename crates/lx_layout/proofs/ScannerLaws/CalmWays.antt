@@ -14,8 +14,8 @@ use Rattle.lx_ccode.specs.declared.piece.Piece.{Piece}
 use Rattle.lx_ccode.specs.declared.piece.Stmt.{Stmt}
 use Rattle.lx_layout.specs.Endings.{Ending}
 use Rattle.lx_layout.specs.Fallback.{edge_code}
-use Rattle.lx_layout.specs.Halting.{AreHalting, Halting, saved_accepts}
-use Rattle.lx_layout.specs.Layout.{StandsFrom, saved_number}
+use Rattle.lx_layout.specs.Halting.{AreHalting, Halting, saved_accepts, kept_number}
+use Rattle.lx_layout.specs.Layout.{StandsFrom}
 use Rattle.lx_layout.specs.SuppliedLayout.{class_blocks, classes_begin, fall_block, own_end, place_of, rule_block, state_end, state_to, state_way, supplied_layout}
 use Rattle.lx_layout.specs.Supplies.{Reader, Supply}
 use Rattle.lx_dispatch.specs.TestTrees.{TestTree}
@@ -74,12 +74,12 @@ module _ (piece : Piece) (supply : Supply) (halting : Halting) (endings : ℕ �
     classes = transition_classes (given s).edges
 
     abbrev class_code : Edge → List Stmt
-    class_code class = edge_code halting auto (given s) (saved_number saves (given s).accept) class (place class.to)
+    class_code class = edge_code halting auto (given s) (kept_number halting saves (given s).accept) class (place class.to)
 
     -- the block of each class
     pub class_there : (k : ℕ) → k < length (transition_classes (state_of auto.states s).edges)
         → (class : Edge) × (slice_get (code_of piece.blocks) (classes_begin supply halting end_rule trees auto s from (state_of auto.states s).edges + k)
-        ≡ Some (edge_code halting auto (state_of auto.states s) (saved_number (saved_accepts halting auto.states) (state_of auto.states s).accept) class
+        ≡ Some (edge_code halting auto (state_of auto.states s) (kept_number halting (saved_accepts halting auto.states) (state_of auto.states s).accept) class
         (place_of supply halting end_rule trees auto begin class.to))) × (class.to < length auto.states)
     class_there k below =
         let lead = each-classes (λ (edge : Edge). edge.to < length auto.states) [] (given s).edges tt
@@ -98,7 +98,7 @@ module _ (piece : Piece) (supply : Supply) (halting : Halting) (endings : ℕ �
       class_up k below =
           let there = class_there k below in
           known piece stream Stored n (first + k) (class_code there.0) there.1
-          (up_edge piece stream Stored n halting auto (given s) (saved_number saves (given s).accept) there.0 (place there.0.to) (base there.0.to there.2))
+          (up_edge piece stream Stored n halting auto (given s) (kept_number halting saves (given s).accept) there.0 (place there.0.to) (base there.0.to there.2))
 
       pub end_up : halting.halts s ≡ true
           → UpAt piece stream Stored n

@@ -18,8 +18,8 @@ use Rattle.lx_layout.specs.Carries.{HasEdge}
 use Rattle.lx_layout.specs.CheckedStates.{ChecksAs, ChecksByWalks, needed}
 use Rattle.lx_layout.specs.Endings.{Ending}
 use Rattle.lx_layout.specs.Fallback.{edge_code}
-use Rattle.lx_layout.specs.Halting.{AreHalting, Halting, halted_accept, is_entered, saved_accepts}
-use Rattle.lx_layout.specs.Layout.{StandsFrom, end_blocks, saved_number}
+use Rattle.lx_layout.specs.Halting.{AreHalting, Halting, halted_accept, is_entered, saved_accepts, kept_number}
+use Rattle.lx_layout.specs.Layout.{StandsFrom, end_blocks}
 use Rattle.lx_layout.specs.SuppliedLayout.{EachReader, blocks_by, class_blocks, entry_of, fall_block, kept, place_of, reader_blocks, rule_block, state_way, states_begin, supplied_layout, turn_of, with_blocks}
 use Rattle.lx_layout.specs.Supplies.{Reader, Supply, need_code, state}
 use Rattle.lx_dispatch.specs.TestTrees.{TestTree, fork, leaf, switch, test}
@@ -91,11 +91,11 @@ module _ (halting : Halting) (auto : Auto) (saved_list : List Accept) (place : �
       → (code : List Stmt) → slice_get blocks from ≡ Some code → needed code ≡ 0
   classes_first [] some stands code is = absurd (omega (arith, some))
   classes_first (class ∷ classes) some stands code is =
-      let first : List Stmt = edge_code halting auto given (saved_number saved_list given.accept) class (place class.to) in
+      let first : List Stmt = edge_code halting auto given (kept_number halting saved_list given.accept) class (place class.to) in
       let own : slice_get blocks from ≡ Some first = stands.0 in
       let same : code ≡ first = cc in
       ap needed same
-      ∙ none_needed first (none-edge is_need others_check halting auto given (saved_number saved_list given.accept) class (place class.to))
+      ∙ none_needed first (none-edge is_need others_check halting auto given (kept_number halting saved_list given.accept) class (place class.to))
 
 -- ---- the whole
 

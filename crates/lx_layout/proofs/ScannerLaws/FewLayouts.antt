@@ -24,8 +24,8 @@ use Rattle.lx_layout.specs.Codes.{accept_code}
 use Rattle.lx_layout.specs.Endings.{Ending}
 use Rattle.lx_layout.specs.Fallback.{edge_code}
 use Rattle.lx_layout.specs.FewTests.{AreFewFor, HasFewTests, HasOwnState, TestsFew, TestsFewOf, first_questions, runs_left}
-use Rattle.lx_layout.specs.Halting.{AreHalting, Halting, is_entered, saved_accepts}
-use Rattle.lx_layout.specs.Layout.{StandsFrom, lone_blocks, lone_code, saved_number}
+use Rattle.lx_layout.specs.Halting.{AreHalting, Halting, is_entered, saved_accepts, kept_number}
+use Rattle.lx_layout.specs.Layout.{StandsFrom, lone_blocks, lone_code}
 use Rattle.lx_layout.specs.SuppliedLayout.{EachReader, blocks_by, entry_by, entry_of, fall_block, lone_number, place_by, place_of, rule_block, supplied_layout, with_blocks}
 use Rattle.lx_layout.specs.Supplies.{Reader, Supply, entry, state}
 use Rattle.lx_layout.specs.TestRuns.{is_first_test}
@@ -200,15 +200,15 @@ module _ (piece : Piece) (format : Format) (supply : Supply) (halting : Halting)
       by peek stream code is (inr h) f = f h
 
   edge_bare : (s : ℕ) (class : Edge) (block : ℕ)
-      → IsBare (edge_code halting auto (state_of auto.states s) (saved_number (saved_accepts halting auto.states) (state_of auto.states s).accept) class block)
+      → IsBare (edge_code halting auto (state_of auto.states s) (kept_number halting (saved_accepts halting auto.states) (state_of auto.states s).accept) class block)
   edge_bare s class block =
       let given : State = state_of auto.states s in
-      let saved : ℕ = saved_number (saved_accepts halting auto.states) (state_of auto.states s).accept in record {
+      let saved : Option ℕ = kept_number halting (saved_accepts halting auto.states) (state_of auto.states s).accept in record {
         peeks = none-edge is_peek others_peek halting auto (state_of auto.states s)
-            (saved_number (saved_accepts halting auto.states) (state_of auto.states s).accept) class block;
+            (kept_number halting (saved_accepts halting auto.states) (state_of auto.states s).accept) class block;
         asks = questions_none (edge_code halting auto given saved class block)
             (none-edge is_first_test others_first halting auto (state_of auto.states s)
-            (saved_number (saved_accepts halting auto.states) (state_of auto.states s).accept) class block);
+            (kept_number halting (saved_accepts halting auto.states) (state_of auto.states s).accept) class block);
       }
 
   module _ (reader : Reader) (is : Reads reader) where
@@ -231,7 +231,7 @@ module _ (piece : Piece) (format : Format) (supply : Supply) (halting : Halting)
             (class_some piece supply halting endings end_rule greatest trees auto begin formed tests some marked stands stored s is) in
             let first_class = class_first piece supply halting endings end_rule greatest trees auto begin formed tests some marked stands stored s is none
             unchecked block one in
-            let edge : List Stmt = edge_code halting auto (state_of auto.states s) (saved_number (saved_accepts halting auto.states) (state_of auto.states s).accept)
+            let edge : List Stmt = edge_code halting auto (state_of auto.states s) (kept_number halting (saved_accepts halting auto.states) (state_of auto.states s).accept)
             class.0 (place_of supply halting end_rule trees auto begin class.0.to) in
             let here : slice_get (code_of piece.blocks) own ≡ Some edge = subst (λ b. slice_get (code_of piece.blocks) b ≡ Some edge) first_class class.1 in
             let same : edge ≡ code = (let e : Some edge ≡ Some code = sym here ∙ at in cc) in

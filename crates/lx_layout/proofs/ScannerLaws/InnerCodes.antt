@@ -58,11 +58,12 @@ module _ (ok : Stmt → Bool) (all : (statement : Stmt) → is_inner statement �
   goto_ok : (block : ℕ) → AreOk (Goto block ∷ [])
   goto_ok block = more (Goto block) [] refl tt
 
-  save_ok : (saves : Bool) (saved : ℕ) (rest : List Stmt) → AreOk rest → AreOk (save_code saves saved rest)
+  save_ok : (saves : Bool) (saved : Option ℕ) (rest : List Stmt) → AreOk rest → AreOk (save_code saves saved rest)
   save_ok false saved rest h = h
-  save_ok true saved rest h = more Backup (SaveAccept saved ∷ rest) refl (more (SaveAccept saved) rest refl h)
+  save_ok true None rest h = more Backup rest refl h
+  save_ok true (Some saved) rest h = more Backup (SaveAccept saved ∷ rest) refl (more (SaveAccept saved) rest refl h)
 
-  edge_ok : (halting : Halting) (auto : Auto) (given : State) (saved : ℕ) (edge : Edge) (block : ℕ) → AreOk (edge_code halting auto given saved edge block)
+  edge_ok : (halting : Halting) (auto : Auto) (given : State) (saved : Option ℕ) (edge : Edge) (block : ℕ) → AreOk (edge_code halting auto given saved edge block)
   edge_ok halting auto given saved edge block =
       save_ok (saves_on halting given edge) saved (list_code auto given.leave (list_code auto edge.ops (Skip ∷ Goto block ∷ [])))
       (list_ok auto given.leave (list_code auto edge.ops (Skip ∷ Goto block ∷ []))

@@ -17,7 +17,7 @@ use Rattle.lx_layout.proofs.BlockLayouts.CodesInBlocks.{StandsFrom-back, StandsF
 use Rattle.lx_layout.proofs.SuppliedLayouts.LayoutServes.{rest, state_stands}
 use Rattle.lx_layout.proofs.SuppliedLayouts.Places.{begin_in}
 use Rattle.lx_layout.proofs.SuppliedLayouts.Readers.{length-reader_blocks, reader_size-with_blocks}
-use Rattle.lx_layout.proofs.SuppliedLayouts.StatesServe.{WaysStand, tests_stand, turn_stands, ways, ways_stand}
+use Rattle.lx_layout.proofs.SuppliedLayouts.StatesServe.{WaysStand, tests_stand, turn_stands, ways, ways_stand, number_in-kept}
 
 module _ (supply : Supply) (halting : Halting) (endings : ℕ → Ending) (end_rule : Option ℕ) (greatest : ℕ) (trees : Reader → TestTree (Option ℕ)) (auto : Auto)
     (begin : ℕ) (blocks : List (List Stmt)) where
@@ -96,7 +96,7 @@ module _ (supply : Supply) (halting : Halting) (endings : ℕ → Ending) (end_r
         by [] none h = absurd (some none)
         by (edge ∷ edges) is h =
             ways_stand supply halting endings greatest end_rule trees auto rules fall begin (number_in halting auto.states) saves place blocks s (own s)
-            (state_of auto.states s) edge edges is h refl
+            (state_of auto.states s) edge edges is h (number_in-kept halting auto.states s)
 
     first_begins : (states : List State) → begin_in supply halting end_rule trees auto 0 start states 0 ≡ start
     first_begins [] = refl
@@ -106,7 +106,7 @@ module _ (supply : Supply) (halting : Halting) (endings : ℕ → Ending) (end_r
     entry_ways_stand rule is =
         subst (λ n. StandWays 0 n) (first_begins auto.states)
         (ways supply halting endings greatest end_rule trees auto rules fall begin (number_in halting auto.states) saves place blocks 0 (own 0)
-        (state_of auto.states 0) refl (state_stands supply halting endings end_rule greatest trees auto begin blocks stands 0 formed.start) rule is)
+        (state_of auto.states 0) (number_in-kept halting auto.states 0) (state_stands supply halting endings end_rule greatest trees auto begin blocks stands 0 formed.start) rule is)
 
     state_reader : (s : ℕ) → IsReader (state s) → ReaderStands (state s)
     state_reader s is = by (state_of auto.states s).edges refl (state_stands supply halting endings end_rule greatest trees auto begin blocks stands s is.0)

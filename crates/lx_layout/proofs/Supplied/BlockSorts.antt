@@ -140,11 +140,12 @@ sort_of-ops (MHere mreg ∷ ops) rest = sort_of-ops ops rest
 sort_of-ops (MNull mreg ∷ ops) rest = sort_of-ops ops rest
 sort_of-ops (MCopy mreg source ∷ ops) rest = sort_of-ops ops rest
 
-sort_of-save : (saves : Bool) (saved : ℕ) (rest : List Stmt) → sort_of (save_code saves saved rest) ≡ sort_of rest
+sort_of-save : (saves : Bool) (saved : Option ℕ) (rest : List Stmt) → sort_of (save_code saves saved rest) ≡ sort_of rest
 sort_of-save false saved rest = refl
-sort_of-save true saved rest = refl
+sort_of-save true None rest = refl
+sort_of-save true (Some saved) rest = refl
 
-pub sort_of-edge : (halting : Halting) (auto : Auto) (state : State) (saved : ℕ) (edge : Edge) (block : ℕ)
+pub sort_of-edge : (halting : Halting) (auto : Auto) (state : State) (saved : Option ℕ) (edge : Edge) (block : ℕ)
     → sort_of (edge_code halting auto state saved edge block) ≡ passing
 sort_of-edge halting auto state saved edge block =
     sort_of-save (saves_on halting state edge) saved (list_code auto state.leave (list_code auto edge.ops (Skip ∷ Goto block ∷ [])))

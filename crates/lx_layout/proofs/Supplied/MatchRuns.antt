@@ -37,7 +37,7 @@ told_from endings cond auto None st w = told_behind endings cond auto (last_stan
 told_from endings cond auto (Some rule) st [] = told_at endings cond rule st.offset []
 told_from endings cond auto (Some rule) st (unit ∷ w) = told_behind endings cond auto (last_standing auto st (unit ∷ w))
 
-module _ (p : Piece) (x : List ℕ) (start : ℕ) (supply : Supply) (halting : Halting) (endings : ℕ → Ending) (greatest : ℕ) (auto : Auto) (place saved rules : ℕ → ℕ) (fall : ℕ)
+module _ (p : Piece) (x : List ℕ) (start : ℕ) (supply : Supply) (halting : Halting) (endings : ℕ → Ending) (greatest : ℕ) (auto : Auto) (place : ℕ → ℕ) (saved : Option (ℕ → ℕ)) (rules : ℕ → ℕ) (fall : ℕ)
     (end_rule : Option ℕ) (begin : ℕ) (serves : Serves supply halting endings greatest auto (code_of p.blocks) place saved rules fall end_rule)
     (enters : ServesEntry supply halting endings greatest auto (code_of p.blocks) place saved rules fall end_rule begin) (formed : IsAuto auto)
     (at_limit : p.eof ≡ supply.eof) (stored : AreStoredBy supply.stored p) (fits : FitsTable supply.among p)
@@ -102,7 +102,7 @@ module _ (p : Piece) (x : List ℕ) (start : ℕ) (supply : Supply) (halting : H
         (code.0, code.1, entry_claim rule block code.0 code.1 (some refl) reader bank (suc (length q)) w lim None None q buffer (omega arith) h stands)
 
 -- the run of a match under a schedule
-pub match_run : (p : Piece) (x : List ℕ) (start : ℕ) (supply : Supply) (halting : Halting) (endings : ℕ → Ending) (greatest : ℕ) (auto : Auto) (place saved rules : ℕ → ℕ)
+pub match_run : (p : Piece) (x : List ℕ) (start : ℕ) (supply : Supply) (halting : Halting) (endings : ℕ → Ending) (greatest : ℕ) (auto : Auto) (place : ℕ → ℕ) (saved : Option (ℕ → ℕ)) (rules : ℕ → ℕ)
     (fall : ℕ) (end_rule : Option ℕ) (block : ℕ) → Serves supply halting endings greatest auto (code_of p.blocks) place saved rules fall end_rule → IsAuto auto
     → p.eof ≡ supply.eof → AreStoredBy supply.stored p → FitsTable supply.among p → (supply.eof ≡ None → AreEnough auto supply.check) → (cond : List ℕ)
     → (IsSome end_rule → IsSome supply.eof)

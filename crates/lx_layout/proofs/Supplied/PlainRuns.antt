@@ -35,9 +35,10 @@ use Rattle.lx_layout.proofs.Runs.UnitsLeft.{left_unit}
 use Rattle.lx_layout.proofs.Supplied.PlainServing.{ReadsPlain, by_jump, by_tests, itself, plain_state}
 use Rattle.lx_layout.proofs.Supplied.SufficientUnits.{HoldsAs, HoldsAs-edge, bank_behind, left_behind}
 use Rattle.lx_layout.proofs.Supplied.StateRuns.{Has, Target, all, at, edge_run, stop_run, target_code}
+use Rattle.lx_layout.specs.Codes.{saved_by}
 
 module _ (p : Piece) (x : List ℕ) (start : ℕ) (supply : Supply) (halting : Halting) (endings : ℕ → Ending) (greatest : ℕ) (auto : Auto)
-    (place saved rules : ℕ → ℕ) (fall : ℕ) (serves : Serves supply halting endings greatest auto (code_of p.blocks) place saved rules fall None)
+    (place : ℕ → ℕ) (saved : Option (ℕ → ℕ)) (rules : ℕ → ℕ) (fall : ℕ) (serves : Serves supply halting endings greatest auto (code_of p.blocks) place saved rules fall None)
     (no_end : supply.eof ≡ None) (unchecked : (number : ℕ) → supply.check number ≡ 0) (fits : FitsTable supply.among p) (formed : IsAuto auto) (first : Option ℕ) (cond : List ℕ) where
   abbrev Reads : ℕ → Type 0
   Reads number = ReadsPlain supply halting endings greatest auto (code_of p.blocks) place saved rules fall number (state_of auto.states number)
@@ -154,7 +155,7 @@ module _ (p : Piece) (x : List ℕ) (start : ℕ) (supply : Supply) (halting : H
           let leads = edge_on-leads auto.regs auto.mregs (length auto.states) state.edges v edge formed_state.lead on in
           let next : Standing = behind_edge (state_of auto.states st.state) st edge in
           let next_code = state_code edge.to leads.0 in
-          let block_code : List Stmt = edge_code halting auto (state_of auto.states st.state) (saved st.state) edge (place edge.to) in
+          let block_code : List Stmt = edge_code halting auto (state_of auto.states st.state) (saved_by saved st.state) edge (place edge.to) in
           let is : slice_get (code_of p.blocks) entered.block ≡ Some block_code = entered.target in
           let has' : slice_get (code_of p.blocks) entered.block ≡ Some entered.to = entered.has in
           let c : entered.to ≡ block_code = cc in
@@ -181,7 +182,7 @@ fits_within l d n e h = let g : l * (2 * n) ≡ d * (2 * n) = ap (λ k. k * (2 *
 
 -- the run of a match is the automaton's
 pub plain_found : (p : Piece) (x : List ℕ) (start : ℕ) (supply : Supply) (halting : Halting) (endings : ℕ → Ending) (greatest : ℕ) (auto : Auto)
-    (place saved rules : ℕ → ℕ) (fall : ℕ) → Serves supply halting endings greatest auto (code_of p.blocks) place saved rules fall None
+    (place : ℕ → ℕ) (saved : Option (ℕ → ℕ)) (rules : ℕ → ℕ) (fall : ℕ) → Serves supply halting endings greatest auto (code_of p.blocks) place saved rules fall None
     → supply.eof ≡ None → ((number : ℕ) → supply.check number ≡ 0) → FitsTable supply.among p → IsAuto auto → (cond : List ℕ)
     → entry_block p.conds cond ≡ Some (place 0)
     → start ≤ length x → AllByRecursion (λ unit. unit ≤ greatest) (drop start x)

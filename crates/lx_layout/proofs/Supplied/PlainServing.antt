@@ -1,5 +1,5 @@
 -- How states read units where all units are there from the start: without a check, and without a unit at the end.
-use Rattle.std.specs.Prelude.{◌≡◌, ℕ, ◌≤◌, List, [], ◌∷◌, Some, None, slice_get}
+use Rattle.std.specs.Prelude.{◌≡◌, ℕ, ◌≤◌, List, [], ◌∷◌, Some, None, slice_get, Option}
 use Rattle.std.proofs.Common.{sym, ap, ◌∙◌, subst}
 use Rattle.lx_auto.specs.Automaton.{edge_on, state_of}
 use Rattle.lx_auto.specs.declared.automaton.Auto.{Auto}
@@ -15,7 +15,7 @@ use Rattle.lx_layout.specs.Supplies.{Supply, need_code, state}
 use Rattle.lx_dispatch.specs.TestTrees.{TestTree, picked}
 use Rattle.lx_layout.specs.TreeCodes.{inner_blocks, tree_code}
 
-module _ (supply : Supply) (halting : Halting) (endings : ℕ → Ending) (greatest : ℕ) (auto : Auto) (blocks : List (List Stmt)) (place saved rules : ℕ → ℕ) (fall : ℕ) where
+module _ (supply : Supply) (halting : Halting) (endings : ℕ → Ending) (greatest : ℕ) (auto : Auto) (blocks : List (List Stmt)) (place : ℕ → ℕ) (saved : Option (ℕ → ℕ)) (rules : ℕ → ℕ) (fall : ℕ) where
   abbrev Has : (block : ℕ) → List Stmt → Type 0
   Has block code = HasCode supply halting endings greatest auto blocks place saved rules fall block code
 

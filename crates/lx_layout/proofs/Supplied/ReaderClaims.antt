@@ -38,6 +38,7 @@ use Rattle.lx_layout.proofs.Supplied.ReaderRuns.{reader_run}
 use Rattle.lx_layout.proofs.Supplied.Refills.{Buffered, Refilled}
 use Rattle.lx_layout.proofs.Supplied.SufficientUnits.{HoldsAs, StandsAt, bank_behind, left_behind, suffices-edge, suffices-more}
 use Rattle.lx_layout.proofs.Supplied.StateRuns.{edge_run, marker_of, number_of, stop_run, target_code, target_some}
+use Rattle.lx_layout.specs.Codes.{saved_by}
 
 -- what is told where a run of the automaton stopped
 abbrev pub told_behind : (endings : ℕ → Ending) → (cond : List ℕ) → Auto → Standing → Ended
@@ -47,7 +48,7 @@ told_behind endings cond auto last = told_found endings cond (found_behind auto 
 abbrev pub TellsOrEnds : Piece → Supply → (units : ℕ) → (told told_here : Ended) → Type 0
 TellsOrEnds p supply units told told_here = EndsBefore p supply units told_here ⊎ (told_here ≡ told)
 
-module _ (p : Piece) (x : List ℕ) (start : ℕ) (supply : Supply) (halting : Halting) (endings : ℕ → Ending) (greatest : ℕ) (auto : Auto) (place saved rules : ℕ → ℕ) (fall : ℕ)
+module _ (p : Piece) (x : List ℕ) (start : ℕ) (supply : Supply) (halting : Halting) (endings : ℕ → Ending) (greatest : ℕ) (auto : Auto) (place : ℕ → ℕ) (saved : Option (ℕ → ℕ)) (rules : ℕ → ℕ) (fall : ℕ)
     (end_rule : Option ℕ) (served : Serves supply halting endings greatest auto (code_of p.blocks) place saved rules fall end_rule) (formed : IsAuto auto)
     (at_limit : p.eof ≡ supply.eof) (stored : AreStoredBy supply.stored p) (fits : FitsTable supply.among p)
     (next_code : (state : ℕ) → state < length auto.states → (code : List Stmt) × (slice_get (code_of p.blocks) (place state) ≡ Some code))
@@ -143,19 +144,19 @@ module _ (p : Piece) (x : List ℕ) (start : ℕ) (supply : Supply) (halting : H
         -- it follows an edge
         edge_claim : (edge : Edge) → edge_on (state_of auto.states st.state).edges unit ≡ Some edge
             → slice_get (code_of p.blocks) to
-            ≡ Some (edge_code halting auto (state_of auto.states st.state) (saved st.state) edge (place edge.to))
+            ≡ Some (edge_code halting auto (state_of auto.states st.state) (saved_by saved st.state) edge (place edge.to))
             → told ≡ told_behind endings cond auto (last_standing auto (behind_edge (state_of auto.states st.state) st edge) w')
             → ClaimsBehind st held k q unit w' edge → Claims lim st code held u kept k q told
         edge_claim edge on is_edge tells behind =
             let state : State = state_of auto.states st.state in
-            let edge_block : List Stmt = edge_code halting auto (state_of auto.states st.state) (saved st.state) edge (place edge.to) in
+            let edge_block : List Stmt = edge_code halting auto (state_of auto.states st.state) (saved_by saved st.state) edge (place edge.to) in
             let leads = edge_on-leads auto.regs auto.mregs (length auto.states) state.edges unit edge (state_formed auto st.state formed).lead on in
             let code' = next_code edge.to leads.0 in
             let here_some = target_some p x start supply halting endings greatest auto place saved rules fall end_rule served formed first cond 0 None st.state
             (Some edge) to h.state is_edge in
             let same : next ≡ edge_block = cc in
-            let long = lengths_of-block passing (code_of p.blocks) to (edge_code halting auto (state_of auto.states st.state) (saved st.state) edge (place edge.to))
-            is_edge (sort_of-edge halting auto (state_of auto.states st.state) (saved st.state) edge (place edge.to)) in
+            let long = lengths_of-block passing (code_of p.blocks) to (edge_code halting auto (state_of auto.states st.state) (saved_by saved st.state) edge (place edge.to))
+            is_edge (sort_of-edge halting auto (state_of auto.states st.state) (saved_by saved st.state) edge (place edge.to)) in
             let passes = edge_run p x start supply halting endings greatest auto place saved rules fall end_rule served formed first cond lim' kept' edge code'.0 st.state st.offset held
             u' k q' leads.1 code'.1 lt in
             let led' = subst (λ c. LeadsIn p x start steps code (mach st.offset lim held u kept k) q c (mach st.offset lim' held u' kept' k) q') same led in

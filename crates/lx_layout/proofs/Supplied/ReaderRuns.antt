@@ -22,7 +22,7 @@ use Rattle.lx_layout.proofs.Supplied.Readers.{ReaderRun, stores_states}
 use Rattle.lx_layout.proofs.Supplied.Refills.{Buffered}
 
 -- what reads a unit has a block
-pub reader_code : (supply : Supply) (halting : Halting) (endings : ℕ → Ending) (greatest : ℕ) (auto : Auto) (blocks : List (List Stmt)) (place saved rules : ℕ → ℕ) (fall : ℕ)
+pub reader_code : (supply : Supply) (halting : Halting) (endings : ℕ → Ending) (greatest : ℕ) (auto : Auto) (blocks : List (List Stmt)) (place : ℕ → ℕ) (saved : Option (ℕ → ℕ)) (rules : ℕ → ℕ) (fall : ℕ)
     (reader : Reader) (units block : ℕ) (Leads : (unit to : ℕ) → Type 0) (Ends : ℕ → Type 0)
     → ((unit to : ℕ) → Leads unit to → (next : List Stmt) × (slice_get blocks to ≡ Some next))
     → ServesReader supply halting endings greatest auto blocks place saved rules fall reader units block Leads Ends
@@ -36,7 +36,7 @@ reader_code supply halting endings greatest auto blocks place saved rules fall r
 reader_code supply halting endings greatest auto blocks place saved rules fall reader units block Leads Ends target
     (at_end eof is tree next to asked own row leads apart leads_eof last) = (Peek ∷ tree_code next tree, own)
 
-module _ (p : Piece) (x : List ℕ) (start : ℕ) (supply : Supply) (halting : Halting) (endings : ℕ → Ending) (greatest : ℕ) (auto : Auto) (place saved rules : ℕ → ℕ) (fall : ℕ)
+module _ (p : Piece) (x : List ℕ) (start : ℕ) (supply : Supply) (halting : Halting) (endings : ℕ → Ending) (greatest : ℕ) (auto : Auto) (place : ℕ → ℕ) (saved : Option (ℕ → ℕ)) (rules : ℕ → ℕ) (fall : ℕ)
     (at_limit : p.eof ≡ supply.eof) (stored : AreStoredBy supply.stored p) (fits : FitsTable supply.among p)
     (reader : Reader) (units block : ℕ) (Leads : (unit to : ℕ) → Type 0) (Ends : ℕ → Type 0)
     (target : (unit to : ℕ) → Leads unit to → (next : List Stmt) × (slice_get (code_of p.blocks) to ≡ Some next))

@@ -1,6 +1,6 @@
 -- What the blocks do that serve an automaton with a supply: they lead from state to state, and end as the automaton's match.
 use Rattle.std.specs.Prelude.{◌≡◌, ◌+◌, ℕ, suc, ◌*◌, ◌<◌, Bool, true, false, ◌&&◌, ◌||◌, List, [], ◌∷◌, length, map, Contains, Option, Some, None, is_some, nat_lt, refl, slice_get}
-use Rattle.std.proofs.Common.{inl, inr, sym, ap, ◌∙◌, subst, arith, lt-ltb}
+use Rattle.std.proofs.Common.{inl, inr, sym, ap, ◌∙◌, subst, arith, lt-ltb, subst₂}
 use Rattle.std.proofs.Math.Bool.{or-true}
 use Rattle.lx_auto.specs.Automaton.{AreOps, IsAccept, IsAuto, state_of}
 use Rattle.lx_auto.specs.Bank.{Bank, bank_after, read_all}
@@ -20,7 +20,7 @@ use Rattle.lx_sequence.specs.ParallelCopies.{sequentialized}
 use Rattle.lx_sequence.specs.Turns.{after_ops}
 use Rattle.lx_sequence.proofs.Agreeing.{Agrees, Agrees-after, read_all-agrees}
 use Rattle.lx_tdfa.specs.Promise.{tag_value}
-use Rattle.lx_layout.specs.Codes.{accept_code, save_code, list_code, restore_code}
+use Rattle.lx_layout.specs.Codes.{accept_code, save_code, list_code, restore_code, saved_by}
 use Rattle.lx_layout.specs.Endings.{Ending, ending_code}
 use Rattle.lx_layout.specs.Fallback.{edge_code, fallback_code}
 use Rattle.lx_layout.specs.Halting.{Halting, is_saved, saves_on}
@@ -34,6 +34,7 @@ use Rattle.lx_layout.proofs.Rules.RuleEnds.{ending_run, goto_run}
 use Rattle.lx_layout.proofs.BlockLayouts.CodesInBlocks.{length-block}
 use Rattle.lx_layout.proofs.Runs.PartialRuns.{EndsIn, LeadsIn, end_in, stays_in, step_in, then_in, widen_end}
 use Rattle.lx_layout.proofs.Supplied.Fallbacks.{fallback_code-some, fallback_end, fallback_run}
+use Rattle.lx_layout.specs.Carries.{HasNumber}
 
 -- a match falls back from a state that does not accept if it goes on from there to such a state
 abbrev pub FallsOnward : Halting → Auto → Type 0
@@ -58,12 +59,25 @@ abbrev pub marker_of : (start : ℕ) → Option Left → ℕ
 marker_of start None = start
 marker_of start (Some left) = left.offset
 
-abbrev pub number_of : (saved : ℕ → ℕ) → Option Left → ℕ
+-- the number that the machine has; where none is kept it is that of a machine that has saved nothing
+abbrev pub number_by : Option (ℕ → ℕ) → (state : ℕ) → ℕ
+number_by None state = 0
+number_by (Some saved) state = saved state
+
+abbrev pub number_of : Option (ℕ → ℕ) → Option Left → ℕ
 number_of saved None = 0
-number_of saved (Some left) = saved left.state
+number_of saved (Some left) = number_by saved left.state
+
+has_number : (saved : Option (ℕ → ℕ)) (state : ℕ) → HasNumber (saved_by saved state) (number_by saved state)
+has_number None state = tt
+has_number (Some saved) state = refl
+
+number_none : (held : Option Left) → number_of None held ≡ 0
+number_none None = refl
+number_none (Some left) = refl
 
 module _ (p : Piece) (x : List ℕ) (start : ℕ) (supply : Supply) (halting : Halting) (endings : ℕ → Ending) (greatest : ℕ) (auto : Auto)
-    (place saved rules : ℕ → ℕ) (fall : ℕ) (end_rule : Option ℕ)
+    (place : ℕ → ℕ) (saved : Option (ℕ → ℕ)) (rules : ℕ → ℕ) (fall : ℕ) (end_rule : Option ℕ)
     (serves : Serves supply halting endings greatest auto (code_of p.blocks) place saved rules fall end_rule) (formed : IsAuto auto) (first : Option ℕ)
     (cond : List ℕ) (lim : ℕ) (kept : Option ℕ) where
   -- the statements of the piece
@@ -102,7 +116,7 @@ module _ (p : Piece) (x : List ℕ) (start : ℕ) (supply : Supply) (halting : H
 
   -- each target is a block
   pub target_code : (s : ℕ) (o : Option Edge) (block : ℕ) → s < length auto.states → Target s o block → (to : List Stmt) × Has block to
-  target_code s (Some edge) block lt target = (edge_code halting auto (state_at s) (saved s) edge (place edge.to), target)
+  target_code s (Some edge) block lt target = (edge_code halting auto (state_at s) (saved_by saved s) edge (place edge.to), target)
   target_code s None block lt target = by (state_at s).accept refl target.1
     where
       by : (o : Option Accept) → (state_at s).accept ≡ o
@@ -122,8 +136,8 @@ module _ (p : Piece) (x : List ℕ) (start : ℕ) (supply : Supply) (halting : H
       let last : List Stmt = Skip ∷ Goto (place edge.to) ∷ [] in
       let behind : List Stmt = list_code auto edge.ops (Skip ∷ Goto (place edge.to) ∷ []) in
       let whole : List Stmt = list_code auto (state_at s).leave (list_code auto edge.ops (Skip ∷ Goto (place edge.to) ∷ [])) in
-      let n = length-block (code_of p.blocks) block (edge_code halting auto (state_at s) (saved s) edge (place edge.to)) target in
-      let l1 = length-save_code (saves_on halting state edge) (saved s) whole in
+      let n = length-block (code_of p.blocks) block (edge_code halting auto (state_at s) (saved_by saved s) edge (place edge.to)) target in
+      let l1 = length-save_code (saves_on halting state edge) (saved_by saved s) whole in
       let l2 = length-ops_code (sequentialized auto.regs auto.mregs (state_at s).leave) behind in
       let l3 = length-ops_code (sequentialized auto.regs auto.mregs edge.ops) last in
       omega (arith, n, l1, l2, l3)
@@ -212,7 +226,8 @@ module _ (p : Piece) (x : List ℕ) (start : ℕ) (supply : Supply) (halting : H
       let n = length-block (code_of p.blocks) fall (fallback_code (halting.falls 0) serves.choices) (serves.fallback s lt falls) in
       let n2 = length-block (code_of p.blocks) r.0 (restore_code (rules left.accept.rule)) r.2 in
       let n3 = length-block (code_of p.blocks) (rules left.accept.rule) (ending_code endings left.accept.rule left.accept.values) ends in
-      let h = fallback_run p x start (at pos (Some left) u k) q (halting.falls 0) serves.choices r.0 code r.1 r.2 in
+      let h = fallback_run p x start (at pos (Some left) u k) q (halting.falls 0) serves.choices r.0 code
+      (r.1 (number_by saved left.state) (has_number saved left.state)) r.2 in
       let t = step_in p x start {s = Restore} {b = Goto (rules left.accept.rule) ∷ []} {m = at pos (Some left) u k} {q = q} refl (omega arith) in
       let is = subst (λ o. IsAccept auto.regs auto.mregs o) ok.2 (state_formed auto left.state formed).accept in
       let g = jump_run left.accept left.offset (Some left) u k b q ends is agree in
@@ -268,13 +283,29 @@ module _ (p : Piece) (x : List ℕ) (start : ℕ) (supply : Supply) (halting : H
 
   -- ---- along an edge
 
+  -- of a state that is left, by the numbers that are kept, if they are
+  saving : (numbers : Option (ℕ → ℕ)) (s pos : ℕ) (left : Left) → left.state ≡ s → left.offset ≡ pos → (held : Option Left) (rest : List Stmt)
+      (u : Option ℕ) (k : Bank) (q : List Answer)
+      → LeadsIn p x start (save_size true (saved_by numbers s)) (save_code true (saved_by numbers s) rest)
+      (machine_at pos (marker_of start held) lim u (number_of numbers held) kept first k cond []) q rest
+      (machine_at pos left.offset lim u (number_by numbers left.state) kept first k cond []) q
+  saving None s pos left is at_offset held rest u k q =
+      subst₂ (λ number offset. LeadsIn p x start 1 (save_code true None rest)
+      (machine_at pos (marker_of start held) lim u number kept first k cond []) q rest
+      (machine_at pos offset lim u 0 kept first k cond []) q) (sym (number_none held)) (sym at_offset)
+      (step_in p x start refl (omega arith))
+  saving (Some numbers) s pos left is at_offset held rest u k q =
+      subst₂ (λ state offset. LeadsIn p x start 2 (save_code true (Some (numbers s)) rest)
+      (machine_at pos (marker_of start held) lim u (number_of (Some numbers) held) kept first k cond []) q rest
+      (machine_at pos offset lim u (numbers state) kept first k cond []) q) (sym is) (sym at_offset)
+      (then_in p x start 2 (step_in p x start refl (omega arith)) (step_in p x start refl (omega arith)) (omega arith))
+
   save_run : (o : Option Accept) (falls : Bool) (s pos : ℕ) (held : Option Left) (rest : List Stmt) (u : Option ℕ) (k : Bank) (q : List Answer)
-      → LeadsIn p x start (save_size (is_some o && falls)) (save_code (is_some o && falls) (saved s) rest) (at pos held u k) q rest
+      → LeadsIn p x start (save_size (is_some o && falls) (saved_by saved s)) (save_code (is_some o && falls) (saved_by saved s) rest) (at pos held u k) q rest
       (at pos (held_after o falls s pos held) u k) q
   save_run None falls s pos held rest u k q = stays_in p x start 0 rest _ q
   save_run (Some accept) false s pos held rest u k q = stays_in p x start 0 rest _ q
-  save_run (Some accept) true s pos held rest u k q =
-      then_in p x start 2 (step_in p x start refl (omega arith)) (step_in p x start refl (omega arith)) (omega arith)
+  save_run (Some accept) true s pos held rest u k q = saving saved s pos (record { state = s; accept = accept; offset = pos }) refl refl held rest u k q
 
   -- the registers of the machine behind an edge
   abbrev pub behind : (s pos : ℕ) → Edge → Bank → Bank
@@ -287,8 +318,8 @@ module _ (p : Piece) (x : List ℕ) (start : ℕ) (supply : Supply) (halting : H
 
   pub edge_run : (edge : Edge) (to : List Stmt) (s pos : ℕ) (held : Option Left) (u : Option ℕ) (k : Bank) (q : List Answer)
       → AreOps auto.regs auto.mregs edge.ops → Has (place edge.to) to → pos < lim
-      → LeadsIn p x start (length (edge_code halting auto (state_at s) (saved s) edge (place edge.to)))
-      (edge_code halting auto (state_at s) (saved s) edge (place edge.to)) (at pos held u k) q
+      → LeadsIn p x start (length (edge_code halting auto (state_at s) (saved_by saved s) edge (place edge.to)))
+      (edge_code halting auto (state_at s) (saved_by saved s) edge (place edge.to)) (at pos held u k) q
       to (at (suc pos) (held_behind s pos edge held) u (behind s pos edge k)) q
   edge_run edge to s pos held u k q are has lt =
       let state : State = state_of auto.states s in
@@ -297,7 +328,7 @@ module _ (p : Piece) (x : List ℕ) (start : ℕ) (supply : Supply) (halting : H
       let b2 : List Stmt = list_code auto edge.ops (Skip ∷ Goto (place edge.to) ∷ []) in
       let b1 : List Stmt = list_code auto (state_at s).leave (list_code auto edge.ops (Skip ∷ Goto (place edge.to) ∷ [])) in
       let k1 : Bank = after_ops pos (sequentialized auto.regs auto.mregs (state_at s).leave) k in
-      let l1 = length-save_code (saves_on halting state edge) (saved s) b1 in
+      let l1 = length-save_code (saves_on halting state edge) (saved_by saved s) b1 in
       let l2 = length-ops_code (sequentialized auto.regs auto.mregs (state_at s).leave) b2 in
       let l3 = length-ops_code (sequentialized auto.regs auto.mregs edge.ops) b3 in
       let h1 = save_run (state_at s).accept (halting.falls edge.to) s pos held b1 u k q in
@@ -309,6 +340,6 @@ module _ (p : Piece) (x : List ℕ) (start : ℕ) (supply : Supply) (halting : H
       let h4 = step_in p x start {s = Skip} {b = Goto (place edge.to) ∷ []} {m = m3} {m' = m4} {q = q}
       (ap (λ t. skip t (Goto (place edge.to) ∷ []) m3 q) t) (omega arith) in
       let h5 = step_in p x start {s = Goto (place edge.to)} {b = []} {m = m4} {m' = m4} {q = q} (ap (λ o. jump o m4 q) has) (omega arith) in
-      then_in p x start (length (edge_code halting auto (state_at s) (saved s) edge (place edge.to))) h1
+      then_in p x start (length (edge_code halting auto (state_at s) (saved_by saved s) edge (place edge.to))) h1
       (then_in p x start (length b1) h2 (then_in p x start (length b2) h3 (then_in p x start 2 h4 h5 (omega arith)) (omega (arith, l3)))
       (omega (arith, l2))) (omega (arith, l1))

@@ -58,7 +58,7 @@ module _ (policy : Policy) (enc : Enc) (patterns : List Pattern) (auto : Auto) (
       let match = outcome_told policy enc patterns auto is endings x start bank empty units ends.slashes ends.set no_end cond in
       (match.0, match.1, tells ∙ ap (λ l. told_from endings cond auto None (start_with start bank) l) (sym split) ∙ match.2)
 
-  module _ (supply : Supply) (halting : Halting) (piece : Piece) (place saved rules : ℕ → ℕ) (fall entry : ℕ)
+  module _ (supply : Supply) (halting : Halting) (piece : Piece) (place : ℕ → ℕ) (saved : Option (ℕ → ℕ)) (rules : ℕ → ℕ) (fall entry : ℕ)
       (serves : Serves supply halting endings (greatest_unit enc) auto (code_of piece.blocks) place saved rules fall (end_rule patterns))
       (enters : ServesEntry supply halting endings (greatest_unit enc) auto (code_of piece.blocks) place saved rules fall (end_rule patterns) entry)
       (some : IsSome (end_rule patterns) → IsSome supply.eof) (is_entry : entry_block piece.conds cond ≡ Some entry) where
@@ -106,7 +106,7 @@ module _ (policy : Policy) (enc : Enc) (patterns : List Pattern) (auto : Auto) (
 
 -- the law
 pub supplied_right : (policy : Policy) (mode : Mode) (enc : Enc) (patterns : List Pattern) (auto : Auto) (endings : ℕ → Ending) (supply : Supply)
-    (halting : Halting) (piece : Piece) (place saved rules : ℕ → ℕ) (fall entry : ℕ) (cond : List ℕ)
+    (halting : Halting) (piece : Piece) (place : ℕ → ℕ) (saved : Option (ℕ → ℕ)) (rules : ℕ → ℕ) (fall entry : ℕ) (cond : List ℕ)
     → IsAutoUnder policy enc patterns auto → HaveEndings enc patterns endings
     → Serves supply halting endings (greatest_unit enc) auto (code_of piece.blocks) place saved rules fall (end_rule patterns)
     → ServesEntry supply halting endings (greatest_unit enc) auto (code_of piece.blocks) place saved rules fall (end_rule patterns) entry

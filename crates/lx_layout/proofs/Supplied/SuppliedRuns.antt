@@ -59,7 +59,7 @@ suffices-start auto check units enough unchecked = by (graph_of auto 0) refl
         let some : graph_of auto 0 ≢ [] = λ none. let n : length (graph_of auto 0) ≡ 0 = ap length none in let m = ap length e in omega (arith, n, m) in
         absurd (enough.start some unchecked)
 
-module _ (p : Piece) (x : List ℕ) (start : ℕ) (supply : Supply) (halting : Halting) (endings : ℕ → Ending) (greatest : ℕ) (auto : Auto) (place saved rules : ℕ → ℕ) (fall : ℕ)
+module _ (p : Piece) (x : List ℕ) (start : ℕ) (supply : Supply) (halting : Halting) (endings : ℕ → Ending) (greatest : ℕ) (auto : Auto) (place : ℕ → ℕ) (saved : Option (ℕ → ℕ)) (rules : ℕ → ℕ) (fall : ℕ)
     (end_rule : Option ℕ) (begin : ℕ) (serves : Serves supply halting endings greatest auto (code_of p.blocks) place saved rules fall end_rule)
     (enters : ServesEntry supply halting endings greatest auto (code_of p.blocks) place saved rules fall end_rule begin) (formed : IsAuto auto)
     (at_limit : p.eof ≡ supply.eof) (stored : AreStoredBy supply.stored p) (fits : FitsTable supply.among p)

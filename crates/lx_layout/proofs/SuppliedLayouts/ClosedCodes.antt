@@ -62,11 +62,12 @@ module _ (B : ℕ → Type 0) where
   fallback_fits leaves (choice ∷ next ∷ choices) to =
       more (IfAccept choice.saved choice.block) (fallback_code leaves (next ∷ choices)) refl (to.0, tt) (fallback_fits leaves (next ∷ choices) to.1)
 
-  save_fits : (saves : Bool) (saved : ℕ) (rest : List Stmt) → Fits rest → Fits (save_code saves saved rest)
+  save_fits : (saves : Bool) (saved : Option ℕ) (rest : List Stmt) → Fits rest → Fits (save_code saves saved rest)
   save_fits false saved rest h = h
-  save_fits true saved rest h = more Backup (SaveAccept saved ∷ rest) refl tt (more (SaveAccept saved) rest refl tt h)
+  save_fits true None rest h = more Backup rest refl tt h
+  save_fits true (Some saved) rest h = more Backup (SaveAccept saved ∷ rest) refl tt (more (SaveAccept saved) rest refl tt h)
 
-  edge_fits : (halting : Halting) (auto : Auto) (given : State) (saved : ℕ) (edge : Edge) (block : ℕ) → B block
+  edge_fits : (halting : Halting) (auto : Auto) (given : State) (saved : Option ℕ) (edge : Edge) (block : ℕ) → B block
       → Fits (edge_code halting auto given saved edge block)
   edge_fits halting auto given saved edge block to =
       save_fits (saves_on halting given edge) saved (list_code auto given.leave (list_code auto edge.ops (Skip ∷ Goto block ∷ [])))

@@ -43,11 +43,12 @@ ops_common (MHere mreg ∷ ops) rest h = (refl, ops_common ops rest h)
 ops_common (MNull mreg ∷ ops) rest h = (refl, ops_common ops rest h)
 ops_common (MCopy mreg source ∷ ops) rest h = (refl, ops_common ops rest h)
 
-save_common : (saves : Bool) (saved : ℕ) (rest : List Stmt) → AreCommon rest → AreCommon (save_code saves saved rest)
+save_common : (saves : Bool) (saved : Option ℕ) (rest : List Stmt) → AreCommon rest → AreCommon (save_code saves saved rest)
 save_common false saved rest h = h
-save_common true saved rest h = (refl, (refl, h))
+save_common true None rest h = (refl, h)
+save_common true (Some saved) rest h = (refl, (refl, h))
 
-edge_common : (halting : Halting) (auto : Auto) (given : State) (saved : ℕ) (edge : Edge) (block : ℕ)
+edge_common : (halting : Halting) (auto : Auto) (given : State) (saved : Option ℕ) (edge : Edge) (block : ℕ)
     → AreCommon (edge_code halting auto given saved edge block)
 edge_common halting auto given saved edge block =
     save_common (saves_on halting given edge) saved (list_code auto given.leave (list_code auto edge.ops (Skip ∷ Goto block ∷ [])))
@@ -111,7 +112,7 @@ module _ (test : Stmt → Bool) (others : (statement : Stmt) → is_common state
   none_common [] h = refl
   none_common (statement ∷ code) h = ap (λ t. t || list_any test code) (others statement h.0) ∙ none_common code h.1
 
-  pub none-edge : (halting : Halting) (auto : Auto) (given : State) (saved : ℕ) (edge : Edge) (block : ℕ)
+  pub none-edge : (halting : Halting) (auto : Auto) (given : State) (saved : Option ℕ) (edge : Edge) (block : ℕ)
       → list_any test (edge_code halting auto given saved edge block) ≡ false
   none-edge halting auto given saved edge block =
       none_common (edge_code halting auto given saved edge block) (edge_common halting auto given saved edge block)

@@ -62,7 +62,7 @@ module _ (P : ℕ → List Stmt → Type 0) (B : ℕ → Type 0) (G : Asked → 
     pub tries : (reader : Reader) (block end : ℕ) → supply.tries ≡ true → IsSome supply.eof → R reader block → B block → B end → (at : ℕ)
         → (IsSome supply.stored → B (suc at)) → P at (try_code supply.stored reader block end)
     pub comes_back : (block end : ℕ) → B block → B end → Anywhere P (back_code block end)
-    pub edges : (given : State) (saved block : ℕ) (edge : Edge) → E given edge → B block → Anywhere P (edge_code halting auto given saved edge block)
+    pub edges : (given : State) (saved : Option ℕ) (block : ℕ) (edge : Edge) → E given edge → B block → Anywhere P (edge_code halting auto given saved edge block)
     pub accepts : (accept : Accept) (block : ℕ) → A accept → B block → Anywhere P (accept_code auto accept.ops block)
     pub choices : (leaves : Bool) (choices : List Choice) → AllByRecursion (λ (choice : Choice). B choice.block) choices
         → Anywhere P (fallback_code leaves choices)

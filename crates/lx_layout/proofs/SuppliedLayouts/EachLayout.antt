@@ -12,8 +12,8 @@ use Rattle.lx_auto.specs.declared.ops.Op.{Op}
 use Rattle.lx_ccode.specs.declared.piece.Stmt.{Stmt}
 use Rattle.lx_layout.specs.Codes.{accept_code}
 use Rattle.lx_layout.specs.Endings.{Ending}
-use Rattle.lx_layout.specs.Halting.{Halting, halted_accept, is_entered}
-use Rattle.lx_layout.specs.Layout.{end_block, end_blocks, end_size, lone_blocks, own_block, own_blocks, own_size, saved_number}
+use Rattle.lx_layout.specs.Halting.{Halting, halted_accept, is_entered, kept_number}
+use Rattle.lx_layout.specs.Layout.{end_block, end_blocks, end_size, lone_blocks, own_block, own_blocks, own_size}
 use Rattle.lx_layout.specs.SuppliedLayout.{at_end_blocks, at_end_size, blocks_by, class_blocks, classes_begin, kept, lone_number, own_end, reader_blocks, reader_size, size_in, sized, state_blocks, state_end, state_size, state_to, state_way, states_blocks, tests_of, tests_size, turn_begin, turn_of, turn_size, with_blocks}
 use Rattle.lx_layout.specs.Supplies.{Reader, Supply, state}
 use Rattle.lx_dispatch.specs.TestTrees.{Asked, EachTest, TestTree, by_cases, fork, leaf, switch, test}
@@ -172,7 +172,7 @@ module _ (P : ℕ → List Stmt → Type 0) (B : ℕ → Type 0) (G : Asked → 
           → EachFrom P from (class_blocks halting auto saved_list place given classes)
       classes_each from given [] h = tt
       classes_each from given (class ∷ classes) h =
-          (holds.edges given (saved_number saved_list given.accept) (place class.to) class h.0.0 (places class.to h.0.1) from, classes_each (suc from) given classes h.1)
+          (holds.edges given (kept_number halting saved_list given.accept) (place class.to) class h.0.0 (places class.to h.0.1) from, classes_each (suc from) given classes h.1)
 
       -- what reads, in a state to which a match comes
       module _ (s from : ℕ) (given : State) (fits : StateFits s from given) (entered : is_entered end_rule auto s ≡ true)

@@ -1,6 +1,6 @@
 -- Of what is chosen of states with their numbers the first accept of each rule: what holds of each, and that each rule chosen is there.
-use Rattle.std.specs.Prelude.{◌≡◌, ◌≢◌, ℕ, zero, suc, ◌+◌, ◌<◌, Bool, true, false, List, [], ◌∷◌, length, Option, Some, None, ◌||◌, nat_eq, refl, slice_get, if◌then◌else◌}
-use Rattle.std.proofs.Common.{sym, ap, ◌∙◌, arith, eq-eqb, true≢false}
+use Rattle.std.specs.Prelude.{◌≡◌, ◌≢◌, ℕ, zero, suc, ◌+◌, ◌<◌, Bool, true, false, List, [], ◌∷◌, length, Option, Some, None, ◌||◌, nat_eq, refl, slice_get, if◌then◌else◌, nat_lt}
+use Rattle.std.proofs.Common.{sym, ap, ◌∙◌, arith, eq-eqb, true≢false, lt-ltb}
 use Rattle.std.proofs.lemmas.Bool.{ne_eqb}
 use Rattle.std.specs.List.{AllByRecursion}
 use Rattle.lx_auto.specs.Automaton.{state_of}
@@ -138,3 +138,16 @@ chosen-choices_from leaves saved block (accept ∷ next ∷ list) rule e =
         else chosen leaves (choices_from (suc saved) (suc block) (next ∷ list)) (saved + suc (rule_place (next ∷ list) rule)))
         (ne_eqb (saved + suc place) saved ne)
         ∙ ap (λ n. chosen leaves (choices_from (suc saved) (suc block) (next ∷ list)) n) up ∙ again e ∙ ap (λ n. Some n) to
+
+-- where no number is kept, the block of the only choice is chosen by any number
+pub chosen-alone : (leaves : Bool) (saved block : ℕ) (list : List Accept) (rule n : ℕ) → (leaves || nat_lt 1 (length list)) ≡ false
+    → has_rule list rule ≡ true → chosen leaves (choices_from saved block list) n ≡ Some (block + rule_place list rule)
+chosen-alone true saved block list rule n alone has = absurd (true≢false alone)
+chosen-alone false saved block [] rule n alone has = absurd (true≢false (sym has))
+chosen-alone false saved block (accept ∷ []) rule n alone has = by (nat_eq rule accept.rule) has
+  where
+    by : (t : Bool) → (if t then true else false) ≡ true → Some block ≡ Some (block + (if t then 0 else 1))
+    by true e = let at : block ≡ block + 0 = omega arith in ap (λ n. Some n) at
+    by false e = absurd (true≢false (sym e))
+chosen-alone false saved block (accept ∷ next ∷ list) rule n alone has =
+    absurd (true≢false (sym (lt-ltb 1 (length (accept ∷ next ∷ list)) (omega arith)) ∙ alone))

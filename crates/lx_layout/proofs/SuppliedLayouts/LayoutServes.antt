@@ -1,5 +1,5 @@
 -- The blocks of a layout with a supply of units serve the automaton.
-use Rattle.std.specs.Prelude.{◌≡◌, ℕ, zero, suc, ◌+◌, ◌<◌, ◌≤◌, true, false, List, [], ◌∷◌, ◌++◌, length, Option, Some, None, All, Contains, IsSome, ◌||◌, refl, slice_get, slice_index_or, if◌then◌else◌}
+use Rattle.std.specs.Prelude.{◌≡◌, ℕ, zero, suc, ◌+◌, ◌<◌, ◌≤◌, true, false, List, [], ◌∷◌, ◌++◌, length, Option, Some, None, All, Contains, IsSome, ◌||◌, refl, slice_get, slice_index_or, if◌then◌else◌, nat_lt, Bool}
 use Rattle.std.proofs.Common.{sym, ap, ◌∙◌, subst, arith, true≢false}
 use Rattle.std.proofs.lemmas.List.Elements.{All-get_or}
 use Rattle.lx_auto.specs.Automaton.{IsAuto, LeadWithin, state_of}
@@ -9,13 +9,13 @@ use Rattle.lx_auto.specs.declared.automaton.Edge.{Edge}
 use Rattle.lx_auto.specs.declared.automaton.State.{State}
 use Rattle.lx_auto.proofs.States.{state_formed}
 use Rattle.lx_ccode.specs.declared.piece.Stmt.{Stmt}
-use Rattle.lx_layout.specs.Codes.{Choice, restore_code}
+use Rattle.lx_layout.specs.Codes.{Choice, restore_code, saved_by}
 use Rattle.lx_layout.specs.Endings.{Ending, ending_code}
 use Rattle.lx_layout.specs.Fallback.{chosen, fallback_code}
 use Rattle.lx_auto.specs.Shapes.{AreAgreed}
-use Rattle.lx_layout.specs.Layout.{StandsFrom, choices_from, ending_blocks, restore_blocks, rule_place, saved_number}
+use Rattle.lx_layout.specs.Layout.{StandsFrom, choices_from, ending_blocks, restore_blocks, rule_place, saved_number, has_rule}
 use Rattle.lx_layout.specs.Supplied.{Restores, Serves, ServesEntry, ServesState}
-use Rattle.lx_layout.specs.Halting.{AreHalting, Falls, Halting, any_falls, at_end, bare, ended_accepts, here, is_entered, is_saved, lone, onward, saved_accepts}
+use Rattle.lx_layout.specs.Halting.{AreHalting, Falls, Halting, any_falls, at_end, bare, ended_accepts, here, is_entered, is_saved, lone, onward, saved_accepts, keeps_numbers}
 use Rattle.lx_layout.specs.SuppliedLayout.{EachReader, at_end_blocks, end_rule_block, end_rule_part, entry_by, entry_part, entry_tests_size, entry_way, fall_block, fallback_part, first_restore, first_rule, kept, number_in, place_by, place_of, reader_blocks, rule_block, state_blocks, state_to, states_begin, states_part, supplied_layout, with_blocks}
 use Rattle.lx_layout.specs.Supplies.{Reader, Supply, entry, state}
 use Rattle.lx_dispatch.specs.Dispatch.{top_of}
@@ -25,12 +25,15 @@ use Rattle.lx_layout.proofs.BlockLayouts.LayoutLengths.{length-ending_blocks, le
 use Rattle.lx_layout.proofs.BlockLayouts.CodesInBlocks.{StandsFrom-back, StandsFrom-front, StandsFrom-get}
 use Rattle.lx_layout.proofs.Rules.RuleBlocks.{restore_stands}
 use Rattle.lx_layout.proofs.Supplied.EnteredStates.{entered-lone}
-use Rattle.lx_layout.proofs.SuppliedLayouts.FirstsFrom.{chosen-below, chosen-choices_from, end_stands, has_rule-saved}
+use Rattle.lx_layout.proofs.SuppliedLayouts.FirstsFrom.{chosen-below, chosen-choices_from, end_stands, has_rule-saved, chosen-alone}
 use Rattle.lx_layout.proofs.SuppliedLayouts.Lengths.{length-entry_part, length-fallback_part}
 use Rattle.lx_layout.proofs.SuppliedLayouts.Places.{begin_in, place_in-begin, rest_stands, states_stand, tree_at}
 use Rattle.lx_layout.proofs.SuppliedLayouts.Readers.{length-reader_blocks, reader_size-with_blocks}
-use Rattle.lx_layout.proofs.SuppliedLayouts.StatesServe.{HaltsRight, WaysStand, entry_serves, state_serves, ways}
+use Rattle.lx_layout.proofs.SuppliedLayouts.StatesServe.{HaltsRight, WaysStand, entry_serves, state_serves, ways, number_in-kept}
 use Rattle.lx_layout.proofs.SuppliedLayouts.WholeLayout.{any_falls-one}
+use Rattle.lx_layout.specs.Carries.{HasNumber}
+use Rattle.lx_base.specs.declared.settings.Format.{Format}
+use Rattle.lx_base.specs.declared.settings.Format.TheVariants.{Three, Two}
 
 -- an edge leads to a state that is there
 leads_in : (regs mregs count : ℕ) (edges : List Edge) → LeadWithin regs mregs count edges → (k : ℕ) → k < length edges → (edge : Edge)
@@ -128,11 +131,28 @@ module _ (supply : Supply) (halting : Halting) (endings : ℕ → Ending) (end_r
       let e : suc (rule_place saves accept.rule) ≡ 1 + rule_place saves accept.rule = omega arith in
       let front = StandsFrom-front blocks restore restores_row (ends_row ++ end_rule_part endings end_rule) behind_fallback in (
         restore + rule_place saves accept.rule,
-        ap (λ o. chosen (halting.falls 0) choices (saved_number saves o)) is ∙ ap (λ n. chosen (halting.falls 0) choices n) e
-            ∙ chosen-choices_from (halting.falls 0) 1 restore saves accept.rule has,
+        by halting.format (ap (λ o. chosen (halting.falls 0) choices (saved_number saves o)) is ∙ ap (λ n. chosen (halting.falls 0) choices n) e
+            ∙ chosen-choices_from (halting.falls 0) 1 restore saves accept.rule has) has,
         StandsFrom-get blocks restore (rule_place saves accept.rule) restores_row (restore_code (rules accept.rule)) front
             (restore_stands rules saves accept.rule has),
       )
+    where
+      -- where the numbers are kept, by that of the state; where none is, the only choice is left
+      on : (t : Bool) → (t ≡ false → (n : ℕ) → chosen (halting.falls 0) choices n ≡ Some (restore + rule_place saves accept.rule))
+          → chosen (halting.falls 0) choices (saved_number saves (state_of auto.states s).accept) ≡ Some (restore + rule_place saves accept.rule)
+          → (kept : ℕ)
+          → HasNumber (saved_by (if t then Some (λ number. saved_number saves (state_of auto.states number).accept) else None) s) kept
+          → chosen (halting.falls 0) choices kept ≡ Some (restore + rule_place saves accept.rule)
+      on true any own kept is_kept = ap (λ n. chosen (halting.falls 0) choices n) is_kept ∙ own
+      on false any own kept is_kept = any refl kept
+
+      by : (format : Format) → chosen (halting.falls 0) choices (saved_number saves (state_of auto.states s).accept) ≡ Some (restore + rule_place saves accept.rule)
+          → has_rule saves accept.rule ≡ true → (kept : ℕ)
+          → HasNumber (saved_by (if keeps_numbers halting format saves then Some (λ number. saved_number saves (state_of auto.states number).accept) else None) s) kept
+          → chosen (halting.falls 0) choices kept ≡ Some (restore + rule_place saves accept.rule)
+      by Two own has = on true (λ e. absurd (true≢false e)) own
+      by Three own has =
+          on (halting.falls 0 || nat_lt 1 (length saves)) (λ e n. chosen-alone (halting.falls 0) 1 restore saves accept.rule n e has) own
 
   -- ---- the states
 
@@ -171,7 +191,7 @@ module _ (supply : Supply) (halting : Halting) (endings : ℕ → Ending) (end_r
     state_here s lt entered =
         let e : 0 + s ≡ s = omega arith in
         state_serves supply halting endings greatest end_rule trees auto rules fall begin (number_in halting auto.states) saves place blocks s (own s)
-        (state_of auto.states s) refl (state_stands s lt) (place_is s lt) entered (state_formed auto s formed).apart
+        (state_of auto.states s) (number_in-kept halting auto.states s) (state_stands s lt) (place_is s lt) entered (state_formed auto s formed).apart
         (All-get_or (λ (state : State). All (λ (edge : Edge). edge.hi ≤ greatest) state.edges) auto.states s
         (record { edges = []; accept = None; leave = [] }) lt within)
         (subst (λ n. PicksAs (top_of supply.eof greatest) supply.among (reader_split supply.eof greatest (state_of auto.states s).edges) (trees (state n))) e
@@ -233,7 +253,7 @@ module _ (supply : Supply) (halting : Halting) (endings : ℕ → Ending) (end_r
             subst (λ n. WaysStand supply halting endings greatest end_rule trees auto rules fall begin (number_in halting auto.states) saves place blocks 0 n
             (state_of auto.states 0)) here
             (ways supply halting endings greatest end_rule trees auto rules fall begin (number_in halting auto.states) saves place blocks 0 (own 0)
-            (state_of auto.states 0) refl (state_stands 0 formed.start) rule is) in
+            (state_of auto.states 0) (number_in-kept halting auto.states 0) (state_stands 0 formed.start) rule is) in
             let block_of : Option ℕ → ℕ = entry_way supply halting end_rule trees auto rules fall begin start (state_of auto.states 0) in
             let tests : List (List Stmt) = reader_blocks supply.stored entry supply.eof 0 begin (with_blocks block_of (trees entry)) in
             let turn : List (List Stmt) = at_end_blocks supply entry begin (begin + entry_tests_size supply halting end_rule trees auto)

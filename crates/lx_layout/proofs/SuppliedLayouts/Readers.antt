@@ -83,7 +83,7 @@ length-at_end_blocks supply reader block here to end = by supply.eof
 
 -- ---- it serves
 
-module _ (supply : Supply) (halting : Halting) (endings : ℕ → Ending) (greatest : ℕ) (auto : Auto) (blocks : List (List Stmt)) (place saved rules : ℕ → ℕ) (fall : ℕ)
+module _ (supply : Supply) (halting : Halting) (endings : ℕ → Ending) (greatest : ℕ) (auto : Auto) (blocks : List (List Stmt)) (place : ℕ → ℕ) (saved : Option (ℕ → ℕ)) (rules : ℕ → ℕ) (fall : ℕ)
     (reader : Reader) (units from here : ℕ) (tree : TestTree ℕ) (to : ℕ → ℕ) (end : ℕ) (Leads : ℕ → ℕ → Type 0) (Ends : ℕ → Type 0) where
   abbrev ServesIt : Type 0
   ServesIt = ServesReader supply halting endings greatest auto blocks place saved rules fall reader units from Leads Ends

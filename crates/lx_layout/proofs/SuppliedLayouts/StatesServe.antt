@@ -2,7 +2,7 @@
 use Rattle.std.specs.Prelude.{◌≡◌, ℕ, zero, suc, ◌+◌, ◌<◌, ◌≤◌, Bool, true, false, List, [], ◌∷◌, ◌++◌, length, Option, Some, None, All, IsSome, ◌&&◌, is_some, nat_eq, refl, slice_get, if◌then◌else◌}
 use Rattle.std.proofs.Common.{inl, inr, sym, ap, ◌∙◌, subst, arith, eq-eqb}
 use Rattle.std.proofs.lemmas.List.Elements.{All-get_or}
-use Rattle.lx_auto.specs.Automaton.{AreApartFrom, edge_on}
+use Rattle.lx_auto.specs.Automaton.{AreApartFrom, edge_on, state_of}
 use Rattle.lx_auto.specs.declared.automaton.Accept.{Accept}
 use Rattle.lx_auto.specs.declared.automaton.Auto.{Auto}
 use Rattle.lx_auto.specs.declared.automaton.Edge.{Edge}
@@ -11,13 +11,13 @@ use Rattle.lx_auto.specs.declared.ops.Op.{Op}
 use Rattle.lx_auto.proofs.Edges.{edge_on-here}
 use Rattle.lx_ccode.specs.declared.piece.Stmt.{Stmt}
 use Rattle.lx_ccode.specs.declared.piece.Stmt.TheVariants.{Goto, Skip}
-use Rattle.lx_layout.specs.Codes.{accept_code, list_code, save_code}
+use Rattle.lx_layout.specs.Codes.{accept_code, list_code, save_code, saved_by}
 use Rattle.lx_layout.specs.Endings.{Ending, ending_code}
 use Rattle.lx_layout.specs.Layout.{StandsFrom, end_block, end_blocks, lone_blocks, lone_code, lone_place, own_block, own_blocks, saved_number}
 use Rattle.lx_layout.specs.Supplied.{EndsBy, IsEnd, IsTarget, ServesReader, ServesState, ends, goes, reads}
 use Rattle.lx_layout.specs.Fallback.{edge_code}
-use Rattle.lx_layout.specs.Halting.{Halting, halted_accept, is_entered, saves_on}
-use Rattle.lx_layout.specs.SuppliedLayout.{at_end_blocks, blocks_by, class_blocks, classes_begin, entry_tests_size, entry_way, kept, lone_number, own_end, place_by, reader_blocks, reader_size, sized, state_end, state_to, state_way, tests_of, tests_size, turn_begin, turn_of, with_blocks}
+use Rattle.lx_layout.specs.Halting.{Halting, halted_accept, is_entered, saves_on, kept_number, keeps_numbers, saved_accepts}
+use Rattle.lx_layout.specs.SuppliedLayout.{at_end_blocks, blocks_by, class_blocks, classes_begin, entry_tests_size, entry_way, kept, lone_number, own_end, place_by, reader_blocks, reader_size, sized, state_end, state_to, state_way, tests_of, tests_size, turn_begin, turn_of, with_blocks, number_in}
 use Rattle.lx_layout.specs.Supplies.{Reader, Supply, entry, state}
 use Rattle.lx_dispatch.specs.Dispatch.{top_of}
 use Rattle.lx_dispatch.specs.TestTrees.{PicksAs, TestTree, fork, leaf, picked, switch, test}
@@ -41,13 +41,13 @@ place_within (first ∷ classes) (suc place) class is = let within = place_withi
 module _ (halting : Halting) (auto : Auto) (saved_list : List Accept) (place : ℕ → ℕ) where
   pub slice_get-class_blocks : (given : State) (classes : List Edge) (j : ℕ) (class : Edge) → slice_get classes j ≡ Some class
       → slice_get (class_blocks halting auto saved_list place given classes) j
-      ≡ Some (edge_code halting auto given (saved_number saved_list given.accept) class (place class.to))
+      ≡ Some (edge_code halting auto given (kept_number halting saved_list given.accept) class (place class.to))
   slice_get-class_blocks given [] j class e = absurd (cc)
   slice_get-class_blocks given (first ∷ classes) zero class e =
-      let same : first ≡ class = cc in ap (λ w. Some (edge_code halting auto given (saved_number saved_list given.accept) w (place w.to))) same
+      let same : first ≡ class = cc in ap (λ w. Some (edge_code halting auto given (kept_number halting saved_list given.accept) w (place w.to))) same
   slice_get-class_blocks given (first ∷ classes) (suc j) class e = slice_get-class_blocks given classes j class e
 
-  edge_code-same : (number : ℕ) (given : State) (class edge : Edge) → same_class class edge ≡ true
+  edge_code-same : (number : Option ℕ) (given : State) (class edge : Edge) → same_class class edge ≡ true
       → edge_code halting auto given number class (place class.to) ≡ edge_code halting auto given number edge (place edge.to)
   edge_code-same number given class edge same =
       ap (λ ops. save_code (saves_on halting given class) number (list_code auto given.leave (list_code auto ops (Skip ∷ Goto (place class.to) ∷ []))))
@@ -56,6 +56,17 @@ module _ (halting : Halting) (auto : Auto) (saved_list : List Accept) (place : �
       (list_code auto given.leave (list_code auto edge.ops (Skip ∷ Goto (place to) ∷ []))))
       (same_class-to class edge same)
 
+-- a state is saved by the number that is kept of what it accepts, if one is
+pub number_in-kept : (halting : Halting) (states : List State) (s : ℕ)
+    → saved_by (number_in halting states) s ≡ kept_number halting (saved_accepts halting states) (state_of states s).accept
+number_in-kept halting states s = by (keeps_numbers halting halting.format (saved_accepts halting states))
+  where
+    by : (t : Bool)
+        → saved_by (if t then Some (λ number. saved_number (saved_accepts halting states) (state_of states number).accept) else None) s
+        ≡ (if t then Some (saved_number (saved_accepts halting states) (state_of states s).accept) else None)
+    by true = refl
+    by false = refl
+
 -- a match can end in a state without an edge, where a unit has no edge, and where a unit stands at the end of the input
 pub record HaltsRight (supply : Supply) (halting : Halting) (greatest : ℕ) (end_rule : Option ℕ) (auto : Auto) (s : ℕ) (given : State) : Type 0 where
   pub lone : given.edges ≡ [] → halting.halts s ≡ true
@@ -63,7 +74,7 @@ pub record HaltsRight (supply : Supply) (halting : Halting) (greatest : ℕ) (en
   pub turned : IsSome supply.eof → is_entered end_rule auto s ≡ true → halting.halts s ≡ true
 
 module _ (supply : Supply) (halting : Halting) (endings : ℕ → Ending) (greatest : ℕ) (end_rule : Option ℕ) (trees : Reader → TestTree (Option ℕ)) (auto : Auto)
-    (rules : ℕ → ℕ) (fall begin : ℕ) (saved : ℕ → ℕ) (saved_list : List Accept) (place : ℕ → ℕ) (blocks : List (List Stmt)) where
+    (rules : ℕ → ℕ) (fall begin : ℕ) (saved : Option (ℕ → ℕ)) (saved_list : List Accept) (place : ℕ → ℕ) (blocks : List (List Stmt)) where
   abbrev Target : (s : ℕ) → State → Option Edge → ℕ → Type 0
   Target s given o block = IsTarget supply halting endings greatest auto blocks place saved rules fall s given o block
 
@@ -90,7 +101,7 @@ module _ (supply : Supply) (halting : Halting) (endings : ℕ → Ending) (great
 
   -- the blocks of the classes of a state, and that of its end, stand where they should
   pub record WaysStand (s from : ℕ) (given : State) : Type 0 where
-    pub number : saved s ≡ saved_number saved_list given.accept
+    pub number : saved_by saved s ≡ kept_number halting saved_list given.accept
     pub classes : StandsFrom blocks (classes_begin supply halting end_rule trees auto s from given.edges)
         (class_blocks halting auto saved_list place given (transition_classes given.edges))
     pub ends : halting.halts s ≡ true
@@ -113,9 +124,9 @@ module _ (supply : Supply) (halting : Halting) (endings : ℕ → Ending) (great
         let classes : List Edge = transition_classes given.edges in
         let found = class_found classes edge (has edge refl) in
         StandsFrom-get blocks first (class_place classes edge) (class_blocks halting auto saved_list place given (transition_classes given.edges))
-        (edge_code halting auto given (saved_number saved_list given.accept) found.0 (place found.0.to)) stand.classes
+        (edge_code halting auto given (kept_number halting saved_list given.accept) found.0 (place found.0.to)) stand.classes
         (slice_get-class_blocks halting auto saved_list place given classes (class_place classes edge) found.0 found.1)
-        ∙ ap (λ c. Some c) (edge_code-same halting auto saved_list place (saved_number saved_list given.accept) given found.0 edge found.2)
+        ∙ ap (λ c. Some c) (edge_code-same halting auto saved_list place (kept_number halting saved_list given.accept) given found.0 edge found.2)
         ∙ ap (λ n. Some (edge_code halting auto given n edge (place edge.to))) (sym stand.number)
 
     -- each unit of the input
@@ -270,7 +281,7 @@ module _ (supply : Supply) (halting : Halting) (endings : ℕ → Ending) (great
         subst (λ n. StandsFrom blocks (turn_begin supply halting end_rule trees auto s from (edge ∷ edges) + n) end_row) l
         (StandsFrom-back blocks (turn_begin supply halting end_rule trees auto s from (edge ∷ edges)) turn_row end_row behind_classes)
 
-    pub ways_stand : saved s ≡ saved_number saved_list given.accept → WaysStand s from given
+    pub ways_stand : saved_by saved s ≡ kept_number halting saved_list given.accept → WaysStand s from given
     ways_stand number = record {
       number = number;
       classes = subst (λ l. StandsFrom blocks (classes_begin supply halting end_rule trees auto s from l)
@@ -290,7 +301,7 @@ module _ (supply : Supply) (halting : Halting) (endings : ℕ → Ending) (great
         subst (λ l. StandsFrom blocks (turn_begin supply halting end_rule trees auto s from l) turn_row) (sym some)
         (StandsFrom-front blocks (turn_begin supply halting end_rule trees auto s from (edge ∷ edges)) turn_row end_row behind_classes)
 
-  module _ (s from : ℕ) (given : State) (number : saved s ≡ saved_number saved_list given.accept)
+  module _ (s from : ℕ) (given : State) (number : saved_by saved s ≡ kept_number halting saved_list given.accept)
       (h : StandsFrom blocks from (blocks_by supply halting end_rule trees auto rules fall begin saved_list place s from given given.edges)) where
     -- the ways of a state stand, where a rule stands at the end of the input also without an edge
     pub ways : (rule : ℕ) → end_rule ≡ Some rule → WaysStand s from given

@@ -12,6 +12,12 @@ returns c = record {
     whole = λ e. absurd (false≢true (sym e));
     answers = (refl, refl, lit≤ tt, ((refl, lit≤ tt, lit≤ tt, lit≤ tt), tt), ((refl, lit≤ tt, lit≤ tt, lit≤ tt), (refl, refl, lit≤ tt, (refl, tt), (refl, tt))));
   };
+  dropped_two = record {
+    from_start = lit≤ tt;
+    within = lit≤ tt;
+    whole = λ e. absurd (false≢true (sym e));
+    answers = ((refl, lit≤ tt, lit≤ tt, lit≤ tt), tt);
+  };
   dropped_too_many = λ legal. (let within = legal.answers.0.1 in absurd (omega (arith, within)));
   more_after_no_more = λ legal. absurd (false≢true (sym legal.answers.1.0));
   too_early = λ legal. (let whole = legal.answers.0 in absurd (omega (arith, whole)));

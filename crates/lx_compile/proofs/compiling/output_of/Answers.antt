@@ -42,7 +42,7 @@ returns c =
     let made = c.in_ok-made.made in
     let are = c.in_ok-resolution.ensures.parts in
     let is = rw (c.switch_themselves-own_switch.ensures, c.as_slice.ensures, c.as_slice-2.ensures.value, c.in_ok-names.ensures) at c.in_ok-made.ensures in
-    let wrote = rw (c.as_slice-3.ensures, are.2) at c.in_ok-whole.ensures in
+    let wrote = rw (c.as_slice-3.ensures, are.2, c.in_ok-out.ensures) at c.in_ok-whole.ensures in
     let given = rw c.as_slice-4.ensures at c.in_ok-output.ensures in
     let given_of =
     IsGivenOf-parts options names c.args.pieces parts are.0 are.1 is.1 made is.0 c.in_ok-whole.whole.items c.in_ok-output.output.items wrote.0 wrote.1 given in

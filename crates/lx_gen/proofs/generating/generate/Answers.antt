@@ -1,4 +1,4 @@
-use Rattle.std.proofs.Common.{◌≡◌, ◌∙◌, ap, subst, sym, ℕ, List, length, map, refl}
+use Rattle.std.proofs.Common.{arith, ◌≡◌, ◌∙◌, ap, subst, sym, ℕ, List, length, map, refl}
 use Rattle.std.proofs.lemmas.List.{length-map}
 use Rattle.lx_layout.specs.Endings.{Ending}
 use Rattle.lx_layout.specs.PieceViews.{seen_sources}
@@ -50,7 +50,7 @@ piece_of-requires-clause-fit c =
     subst (λ (one : Form). AreFit one (seen_sources c.deref-2.result.now)) (sym (c.piece_form-form.ensures resolved (sym c.as_slice-items.ensures) refl))
     (subst (λ (list : List Source). AreFit form list) (sym sources)
     (all_fit options resolved autos checks c.args.number c.args.first_state c.args.own_switch line marks c.requires.formed c.requires.automata
-    lines c.requires.some c.requires.first_state c.marks_of.ensures.line))
+    lines (omega (arith, c.ranges.number)) c.requires.some c.requires.first_state c.marks_of.ensures.line))
 
 pub returns-clause-piece : goal.returns-clause-piece
 returns-clause-piece c =

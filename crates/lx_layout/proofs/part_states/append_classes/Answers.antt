@@ -31,5 +31,5 @@ loop-class-preserved c =
       put = classes-more c.args.classes.now c.loop-class.class-index class c.loop-class-test.true c.class-item.is plans c.args.state.now
           c.in_ok-edge_code.field-0.items c.loop-class.blocks.items
           c.append_block.new.blocks.items _ c.in_ok-append_block.ensures c.loop-class.invariant.put
-          (c.in_ok-edge_code.ensures ∙ ap₂ (λ k b. edge_code (halting_at plans) auto c.args.state.now k class.edge.now b) c.saved_number-saved.ensures block);
+          (c.in_ok-edge_code.ensures ∙ ap₂ (λ k b. edge_code (halting_at plans) auto c.args.state.now k class.edge.now b) c.kept_number-saved.ensures block);
     }
