@@ -1,6 +1,6 @@
 #!/bin/sh
-# Measures whole compilations by the program, beside the original re2c where that is installed, in three tables. It fails where a limit
-# or a goal is not met.
+# Measures whole compilations by the program, in both formats of emitted text, beside the original re2c where that is installed, in three tables.
+# It fails where a limit or a goal is not met, in either format. Where no original is there, only ours are measured, and the script says so.
 #
 # The first table has sources with limits on the seconds: 200 blocks with 9,800 rules of strings (2 s), 16 MiB of outside text with one
 # block (0.5 s), and a scanner of 4,096 kernels (1 s).
@@ -9,7 +9,7 @@
 # UTF-32, 10,000 keywords in 200 blocks, the lexer of 40 rules, 4,096 kernels, 1,048,576 places, 4,096 rules, 128 tags, 64 groups and 256
 # parentheses in one another. For each it has the seconds of the processor (the best of five runs), the peak of memory, the instructions
 # that valgrind counts where it is there, and the bytes of the output. Goals: at most as long as the original, and at most 0.7 times as
-# many instructions. The original has 60 s and 4 GiB; `-` stands where that is not enough, or where it refuses the source.
+# many instructions, as the original without options. It has 60 s and 4 GiB, and stands in the table with -b and -g, too; `-` stands where that is not enough, or where it refuses the source.
 #
 # The third has the seconds that `clang -O1` takes for the scanners of names. Goal: in UTF-32 at most as long as the original's.
 #
@@ -29,7 +29,8 @@ work, program, original = sys.argv[1:]
 SECONDS, MEMORY, RUNS = 60, 4 << 30, 5
 PLAIN = 're2c:yyfill:enable = 0;\n'
 LETTERS = open('examples/unicode_letters.re').read()
-OURS, THEIRS = 'this re2c', 'the original'
+OURS, TWO, THEIRS, BITS, GOTOS = 'format 3', 'format 2', 'the original', 'its -b', 'its -g'
+FORMATS = {OURS: ['--x-format', '3'], TWO: []}
 
 
 def block(lines):
@@ -115,17 +116,20 @@ def shown(value, form):
     return '-' if value is None else form.format(value)
 
 
-print(f'{"source":28}{"bytes":>12}{"seconds":>10}{"limit":>8}')
+print(f'{"source":28}{"bytes":>12}{"by":>10}{"seconds":>10}{"limit":>8}')
 for name, (text, most) in LIMITED.items():
     with open(f'{work}/a.re', 'w') as file:
         file.write(text)
-    took = measured([program, '-i', '-o', f'{work}/made.c', f'{work}/a.re'])
-    print(f'{name:28}{len(text):>12,}{shown(took and took[0], "{:.2f}"):>10}{most:>8}', flush=True)
-    missed(name, 'seconds', took[0] if took else 1e9, most)
+    for maker, words in FORMATS.items():
+        took = measured([program, '-i', *words, '-o', f'{work}/made.c', f'{work}/a.re'])
+        print(f'{name:28}{len(text):>12,}{maker:>10}{shown(took and took[0], "{:.2f}"):>10}{most:>8}', flush=True)
+        missed(f'{name}, {maker}', 'seconds', took[0] if took else 1e9, most)
 
-makers = {OURS: program}
+makers = {maker: [program, '-i', *words] for maker, words in FORMATS.items()}
 if shutil.which(original):
-    makers[THEIRS] = original
+    makers |= {THEIRS: [original, '-i'], BITS: [original, '-i', '-b'], GOTOS: [original, '-i', '-g']}
+else:
+    print('\nthe original is not installed: only ours are measured')
 print(f'\n{"source":20}{"by":16}{"seconds":>10}{"memory MB":>12}{"instructions":>18}{"bytes":>12}')
 objects = {}
 for name, (text, ours, theirs) in COMPARED.items():
@@ -134,7 +138,7 @@ for name, (text, ours, theirs) in COMPARED.items():
     rows = {}
     for maker, command in makers.items():
         made = f'{work}/{name.replace(" ", "_")}_{len(rows)}.c'
-        words = [command, '-i', *(ours if maker == OURS else theirs), '-o', made, f'{work}/a.re']
+        words = [*command, *(ours if maker in FORMATS else theirs), '-o', made, f'{work}/a.re']
         runs = [took for took in (measured(words) for _ in range(RUNS)) if took]
         best = min(runs) if runs else (None, None)
         rows[maker] = best[0], best[1], instructions(words) if runs and best[0] < 3 else None
@@ -144,8 +148,9 @@ for name, (text, ours, theirs) in COMPARED.items():
         print(f'{name:20}{maker:16}{shown(best[0], "{:.3f}"):>10}{shown(best[1] and best[1] / 1e6, "{:.1f}"):>12}'
               f'{shown(rows[maker][2], "{:,}"):>18}{shown(size, "{:,}"):>12}', flush=True)
     if THEIRS in rows:
-        missed(name, 'seconds', rows[OURS][0], rows[THEIRS][0])
-        missed(name, 'instructions', rows[OURS][2], rows[THEIRS][2] and 0.7 * rows[THEIRS][2])
+        for maker in FORMATS:
+            missed(f'{name}, {maker}', 'seconds', rows[maker][0], rows[THEIRS][0])
+            missed(f'{name}, {maker}', 'instructions', rows[maker][2], rows[THEIRS][2] and 0.7 * rows[THEIRS][2])
 
 if shutil.which('clang'):
     print(f'\n{"source":20}' + ''.join(f'{maker:>16}' for maker in makers))
@@ -154,8 +159,9 @@ if shutil.which('clang'):
         took = {maker: measured(['clang', '-O1', '-w', f'-DYYCTYPE={unit}', '-c', '-o', f'{work}/made.o', made])
                 for (given, maker), made in objects.items() if given == name}
         print(f'{name:20}' + ''.join(f'{shown(took.get(maker) and took[maker][0], "{:.2f}"):>16}' for maker in makers), flush=True)
-        if name == 'names in UTF-32' and took.get(OURS) and took.get(THEIRS):
-            missed(name, 'seconds of clang -O1', took[OURS][0], took[THEIRS][0])
+        if name == 'names in UTF-32' and took.get(THEIRS):
+            for maker in FORMATS:
+                missed(f'{name}, {maker}', 'seconds of clang -O1', took[maker][0] if took.get(maker) else 1e9, took[THEIRS][0])
 
 print(f'\ncompiling: {len(failed)} not met' + ''.join(f'\n- {line}' for line in failed))
 sys.exit(bool(failed))

@@ -1,23 +1,25 @@
 #!/bin/sh
-# Measures how fast the lexer of 40 rules (tests/c/lexer.rules) scans, beside scanners of the same rules by the original re2c: as it works
-# without options but `-i -T`, with `-s` (nested tests), and with `-b` (nested tests and tables of bits).
+# Measures how fast the lexer of 40 rules (tests/c/lexer.rules) scans, in both formats of emitted text, beside scanners of the same rules by the
+# original re2c: as it works without options but `-i -T`, with `-s` (nested tests), with `-b` (nested tests and tables of bits), and with `-g`
+# (tables of bits and of addresses). Where no original is there, only ours are measured.
 # The texts are C headers and C sources of this machine, and JSON and the log of a web server, which are made with a seed. Where the
 # machine has under 1 MiB of C sources, C++ headers stand for them. Each text is repeated up to its size.
 #
 # The actions count matches by their rule, and add up the lengths between the two tags. Each scanner is compiled twice by each compiler:
 # with a cursor that is a local variable of one call for the whole text, and with a cursor that is a global variable and a call for each
-# match. Compilers are `gcc -O2` and `clang -O2` where they are there; each has 60 s and 4 GiB. Scanners take turns, and the best turn of
-# each counts, in seconds of the processor. The rules and ends of all matches have to be the same for all scanners.
+# match. Compilers are `gcc -O2` and `clang -O2` where they are there; each has 60 s and 4 GiB. All scanners of a compiler and a cursor stand in
+# one program, each at four places of a line of 64 bytes (bench/places.py), and take turns. At each place the best turn counts, in seconds of
+# the processor, and of the places the mean. The rules and ends of all matches have to be the same for all scanners.
 #
-# A ratio is the speed of this re2c's scanner by that of the original's. It fails where one of these goals is not met:
+# A ratio is the speed of a scanner of format 3 by that of another one. It fails where one of these goals is not met:
 # - at least 1.00 of the original with -s, on every text, with every compiler and cursor;
 # - on C headers at least 0.85 of the original without options with gcc, and at least 0.90 with clang.
 #
 # Then it shows the tests of a unit for each state: the greatest number of tests that a unit may need, and on each text the mean number
-# of those that were made, behind the share of the text's reads that the state has.
+# of those that were made, behind the share of the text's reads that the state has. A switch counts as one test.
 #
 # Usage: bench/scanning.sh [MEGABYTES [TURNS [PICTURE]]], from anywhere; a text has MEGABYTES MiB (64 where the word is left out), and each
-# scanner TURNS turns (7). The ratios are drawn into the file PICTURE, an SVG, where it is named. RE2C names the program (that of bin/re2c
+# scanner TURNS turns at each place (7). The ratios are drawn into the file PICTURE, an SVG, where it is named. RE2C names the program (that of bin/re2c
 # where it is unset), and ORIGINAL the original (re2c where it is unset).
 from=$(pwd)
 cd "$(dirname "$0")/.." || exit 1
@@ -124,20 +126,58 @@ int main(int count, char **words)
     return 0;
 }
 C
-python3 - "$work" "$program" "${ORIGINAL:-re2c}" "${1:-64}" "${2:-7}" "$picture" <<'PYTHON'
+# what a turn begins with, and what it gave
+cat > "$work/front.h" <<'C'
+#include <string.h>
+unsigned long counts[41], spans;
+static unsigned char *whole;
+
+static void take(const char *name)
+{
+    FILE *file = fopen(name, "rb");
+    long size;
+
+    if (!file || fseek(file, 0, SEEK_END) || (size = ftell(file)) < 0 || !(whole = calloc((size_t)size + 1, 1)))
+        exit(1);
+    rewind(file);
+    if (fread(whole, 1, (size_t)size, file) != (size_t)size)
+        exit(1);
+    fclose(file);
+}
+
+static void begin(void)
+{
+    memset(counts, 0, sizeof counts);
+    spans = 0;
+}
+
+static unsigned long result(void)
+{
+    unsigned long sum = 0;
+
+    for (int rule = 0; rule < 41; ++rule)
+        sum = sum * 31 + counts[rule];
+    return sum * 31 + spans;
+}
+C
+PYTHONPATH=bench PYTHONDONTWRITEBYTECODE=1 python3 - "$work" "$program" "${ORIGINAL:-re2c}" "${1:-64}" "${2:-7}" "$picture" <<'PYTHON'
 import json, os, random, re, resource, shutil, subprocess, sys
+from places import Timed
 work, program, original, megabytes, turns, picture = sys.argv[1:]
 SIZE = int(megabytes) << 20
 TURNS = int(turns)
 MADE = min(SIZE, 16 << 20)
 TEXTS = ('C headers', 'C sources', 'JSON', 'logs')
-OURS, DEFAULT, NESTED, BITS = 'this re2c', 'default', '-s', '-b'
+OURS, TWO, DEFAULT, NESTED, BITS, GOTOS = 'format 3', 'format 2', 'default', '-s', '-b', '-g'
 CURSORS = {'local': [], 'global': ['-DGLOBAL']}
 LEAST = {'gcc': 0.85, 'clang': 0.9}
 LABEL = re.compile(r'(yy[0-9]+_[0-9]+):')
-TEST = re.compile(r'\tif \(yych <= 0x([0-9A-F]+)\) goto (yy[0-9]+_[0-9]+);')
+TEST = re.compile(r'\tif \((?:yych (<=|==) 0x([0-9A-F]+)|yybm\[(?:0x([0-9A-F]+) \+ )?yych\] & 0x([0-9A-F]+))\) goto (yy[0-9]+_[0-9]+);')
+CASES = re.compile(r'\t(case .*|default: )goto (yy[0-9]+_[0-9]+);')
+ROW = re.compile(r'\t((?:0x[0-9A-F]{2},){16})')
 GOTO = re.compile(r'\tgoto (yy[0-9]+_[0-9]+);')
 PEEK = '\tyych = *YYCURSOR;'
+PIECE = 'piece'
 
 
 def source():
@@ -278,41 +318,65 @@ def check(compiler, scanners):
                 raise SystemExit(f'scanning: the scanners differ on {text}')
 
 
-def speeds(text, programs):
-    """Returns the speed of each program on a text in MiB a second, the best of some turns."""
-    best, sums = {}, set()
-    for _ in range(TURNS):
-        for key, scanner in programs.items():
-            seconds, total = lines_of(scanner, text)[0].split()
-            best[key] = min(best.get(key, 1e9), float(seconds))
-            sums.add(total)
-    if len(sums) > 1:
-        raise SystemExit(f'scanning: the scanners differ on {text}')
-    return {key: SIZE / (1 << 20) / max(seconds, 1e-6) for key, seconds in best.items()}
+def timed(compiler, cursor, scanners):
+    """Returns a program with all scanners by a compiler, with a cursor."""
+    folder = f'{work}/{compiler}_{cursor}'
+    os.mkdir(folder)
+    shutil.copy(f'{work}/front.h', folder)
+    program = Timed(folder, compiler, '#include "front.h"', limited)
+    for maker, made in scanners.items():
+        more = lambda named: [f'-DYYCURSOR=cursor_{named}'] if cursor == 'global' else []
+        words = lambda named: [compiler, '-O2', '-w', '-I', work, *CURSORS[cursor], *more(named), f'-Dlex=lex_{named}', made]
+        if not program.add(maker, words, RUNS[cursor]):
+            raise SystemExit(f'scanning: {compiler} fails on {made}')
+    return program
+
+
+RUNS = {
+    'local': lambda named: (f'int lex_{named}(const unsigned char *);\n'
+                            f'static void run_{named}(void) {{ lex_{named}(whole); }}'),
+    'global': lambda named: (f'extern const unsigned char *cursor_{named};\nint lex_{named}(void);\n'
+                             f'static void run_{named}(void) {{ cursor_{named} = whole; while (lex_{named}()) ; }}'),
+}
 
 
 def blocks(made):
-    """Returns the statements of each block of this re2c's scanner."""
-    found, label = {}, None
+    """Returns the statements of each block of this re2c's scanner, and its table of sets. The first block may have no label: it is called `start`."""
+    found, label, table = {}, None, []
     for line in open(made).read().splitlines():
-        begun = LABEL.fullmatch(line)
-        if begun:
-            label = begun[1]
+        begun, row = LABEL.fullmatch(line), ROW.fullmatch(line)
+        if row:
+            table += [int(byte, 16) for byte in row[1].rstrip(',').split(',')]
+        elif begun or (line == '' and PIECE in found and label == PIECE):
+            label = begun[1] if begun else 'start'
+            found[label] = []
+        elif line.startswith('/*!names:re2c'):
+            label = PIECE
             found[label] = []
         elif label:
             found[label].append(line)
-    return found
+    del found[PIECE]
+    return found, table
 
 
-def tests(found, label, unit):
+def holds(test, table, unit):
+    """Returns whether a test of a unit holds."""
+    if test[1]:
+        return unit <= int(test[2], 16) if test[1] == '<=' else unit == int(test[2], 16)
+    return bool(table[int(test[3] or '0', 16) + unit] & int(test[4], 16))
+
+
+def tests(found, table, label, unit):
     """Returns how many tests a unit has behind the read of a block."""
     count, left = 0, found[label][found[label].index(PEEK) + 1:]
     while left:
-        test, jump = TEST.fullmatch(left[0]), GOTO.fullmatch(left[0])
-        count += test is not None
-        if test and unit <= int(test[1], 16):
-            left = found[test[2]]
-        elif test:
+        test, jump, cases = TEST.fullmatch(left[0]), GOTO.fullmatch(left[0]), CASES.fullmatch(left[0])
+        count += test is not None or left[0] == '\tswitch (yych) {'
+        if test and holds(test, table, unit):
+            left = found[test[5]]
+        elif cases and (cases[1] == 'default: ' or f'case 0x{unit:02X}: ' in cases[1]):
+            left = found[cases[2]]
+        elif test or cases or left[0] == '\tswitch (yych) {':
             left = left[1:]
         else:
             left = found[jump[1]] if jump else []
@@ -321,11 +385,11 @@ def tests(found, label, unit):
 
 def reads(compiler, made, states):
     """Returns how often each state of this re2c's scanner reads each unit of each text."""
-    counting, label = made[:-2] + '_reads.c', None
+    counting, label = f'{made[:-2]}_reads.c', None
     with open(counting, 'w') as file:
         for line in open(made).read().splitlines():
             begun = LABEL.fullmatch(line)
-            label = begun[1] if begun else label
+            label = begun[1] if begun else 'start' if line == '' and label == PIECE else PIECE if line.startswith('/*!names:re2c') else label
             file.write(line + (f' ++units[{states.index(label)}][yych];' if line == PEEK else '') + '\n')
     scanner = compiled(compiler, [f'-DSTATES={len(states)}'], counting, counting[:-2])
     found = {}
@@ -342,13 +406,13 @@ def mean(counted, needed, state=None):
     return total, sum(count * many for count, many in of) / max(total, 1)
 
 
-def show_tests(compiler, made):
+def show_tests(compiler, maker, made):
     """Prints the tests of each state that is read."""
-    found = blocks(made)
+    found, rows = blocks(made)
     states = [label for label, lines in found.items() if PEEK in lines]
-    needed = {(state, unit): tests(found, label, unit) for state, label in enumerate(states) for unit in range(256)}
+    needed = {(state, unit): tests(found, rows, label, unit) for state, label in enumerate(states) for unit in range(256)}
     counted = reads(compiler, made, states)
-    print(f'tests of a unit in the {len(states)} states, of which the greatest number is {max(needed.values())}')
+    print(f'{maker}: tests of a unit in the {len(states)} states, of which the greatest number is {max(needed.values())}')
     print(f'{"state":10}{"greatest":>9}' + ''.join(f'{text:>20}' for text in TEXTS))
     totals = {text: mean(counted[text], needed) for text in TEXTS}
     for state, label in enumerate(states):
@@ -421,14 +485,14 @@ def draw(rows, compilers):
 
 def scanners():
     """Returns the emitted scanners by their makers."""
-    options = {OURS: [program, '-i', '-T']}
+    options = {OURS: [program, '-i', '-T', '--x-format', '3'], TWO: [program, '-i', '-T']}
     if shutil.which(original):
         version = subprocess.run([original, '--version'], stdout=subprocess.PIPE, check=True, text=True).stdout.strip()
         print(f'the original is {version}')
         theirs = [original, '-i', '-T', '--no-version', '--no-generation-date']
-        options |= {DEFAULT: theirs, NESTED: theirs + ['-s'], BITS: theirs + ['-b']}
+        options |= {DEFAULT: theirs, NESTED: theirs + ['-s'], BITS: theirs + ['-b'], GOTOS: theirs + ['-g']}
     else:
-        print('the original is not installed: nothing is compared with it')
+        print('the original is not installed: only ours are measured')
     with open(f'{work}/lexer.re', 'w') as file:
         file.write(source())
     found = {maker: f'{work}/lexer_{place}.c' for place, maker in enumerate(options)}
@@ -446,12 +510,17 @@ def main():
     found, rows = scanners(), {}
     write_texts()
     check(compilers[0], found)
-    programs = {(compiler, cursor, maker): compiled(compiler, options, emitted, f'{emitted[:-2]}_{compiler}_{cursor}')
-                for compiler in compilers for cursor, options in CURSORS.items() for maker, emitted in found.items()}
-    for text in TEXTS:
-        for (compiler, cursor, maker), speed in speeds(text, programs).items():
-            rows.setdefault((text, compiler, cursor), {})[maker] = speed
-    show_tests(compilers[0], found[OURS])
+    for compiler in compilers:
+        for cursor in CURSORS:
+            program = timed(compiler, cursor, found)
+            for text in TEXTS:
+                taken = program.run(TURNS, file_of(text))
+                rows[text, compiler, cursor] = {maker: SIZE / (1 << 20) / max(mean_of, 1e-6) for maker, (mean_of, _, _) in taken.items()}
+                spread = max(most / max(least, 1e-9) for _, least, most in taken.values())
+                print(f'{text}, {compiler}, {cursor} cursor: the places of one scanner are apart by up to {spread - 1:.2f}', flush=True)
+    print()
+    for maker in (OURS, TWO):
+        show_tests(compilers[0], maker, found[maker])
     table(rows, found)
     if picture and DEFAULT in found:
         draw(rows, compilers)

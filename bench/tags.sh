@@ -1,19 +1,21 @@
 #!/bin/sh
-# Measures what tags cost, beside the original re2c where that is installed, and fails where one of these limits is not met.
-# For each of the examples dates, log_lines, http_messages and uris, beside the original as it works without options but `-i -T`:
+# Measures what tags cost, in both formats of emitted text, beside the original re2c where that is installed, and fails where one of these limits
+# is not met. Where no original is there, only ours are measured.
+# For each of the examples dates, log_lines, http_messages and uris, in format 3, beside the original as it works without options but `-i -T`:
 # - registers: at most as many;
 # - operations, which are statements that set, empty or copy a register or a history: at most 1.3 times as many;
 # - bytes of all that stands in the places of the blocks: at most 1.5 times as many;
 # - speed on a generated text of 16 MiB, compiled by `gcc -O2`, and by `clang -O2` where it is there: at least the same.
-# For two generated scanners, with the original or without it:
+# For two generated scanners, in both formats, with the original or without it:
 # - sixteen tags before 600 letters (`[ab]* @t0 .. @t15 [ab]{600}`): under 3 s, and under 4,000,000 bytes;
 # - eight tags before 1,446 letters, with 1,047,629 of the 1,048,576 places that a scanner may have: under 60 s and 2 GiB of memory.
 #
 # The operations and registers of the original are counted as ours are: each `yytN = ` is one, also where several stand in a line. Its
 # tags at a fixed distance from others take no register; a row tells what it has without that. Seconds are those of the processor, and
 # memory is the peak that is resident. The bytes under a compiler's name are those that `size` calls text. A compiler has 60 s and 4 GiB,
-# and the original 120 s; `-` stands where that is not enough. Scanning is measured five times, in turns, and the best counts; what all
-# scanners of a source give has to be the same.
+# and the original 120 s; `-` stands where that is not enough. For the speed all scanners of a source by a compiler stand in one program, each
+# at four places of a line of 64 bytes (bench/places.py), and take turns, seven at each place. At each place the best turn counts, and of the
+# places the mean. What all scanners of a source give has to be the same. The original stands there with -b and -g, too.
 #
 # Usage: bench/tags.sh, from anywhere; RE2C names the program (that of bin/re2c where it is unset), and ORIGINAL the original (re2c where
 # it is unset).
@@ -66,22 +68,23 @@ int main(int count, char **words)
 }
 C
 
-# scans a text with the scanner of an example, and prints the seconds, and a sum of all that it gave
+# scans a text with the scanner of an example, by a function scan_ID that adds up what it gives
 cat > "$work/scan.c" <<'C'
 #include <stdio.h>
 #include <stdlib.h>
 #include <string.h>
-#include <time.h>
 
-static unsigned char *whole; /* the text */
-static unsigned long sum;
+extern unsigned char *whole; /* the text */
+extern unsigned long sum;
 
 static void add(const void *place)
 {
     sum = sum * 31 + (place ? (unsigned long)((const unsigned char *)place - whole) : 7);
 }
 
-#define main example_main
+#define JOINED(one, other) one##other
+#define NAMED(one, other) JOINED(one, other)
+#define main NAMED(example_main_, ID)
 #ifdef DATES
 #define printf(format, one, two, three) (add(one), add(two), add(three))
 #endif
@@ -89,7 +92,9 @@ static void add(const void *place)
 #undef main
 #undef printf
 
-static void scan(const unsigned char *end, int all)
+void NAMED(scan_, ID)(const unsigned char *end, int all);
+
+void NAMED(scan_, ID)(const unsigned char *end, int all)
 {
 #ifdef DATES
     (void)all;
@@ -112,35 +117,47 @@ static void scan(const unsigned char *end, int all)
     add(at);
 #endif
 }
+C
 
-int main(int count, char **words)
+# what a turn begins with, and what it gave; with CHECKED in the environment that is all that the matches gave
+cat > "$work/front.h" <<'C'
+unsigned char *whole;
+unsigned long sum;
+static size_t length;
+static int all_given;
+
+static void take(const char *name)
 {
-    size_t length, size = (size_t)17 << 20;
-    FILE *file = fopen(words[count - 1], "rb");
-    clock_t begun;
-    double seconds;
+    size_t size = (size_t)17 << 20;
+    FILE *file = fopen(name, "rb");
 
+    all_given = getenv("CHECKED") != NULL;
     whole = calloc(size, 1);
     if (!whole || !file || (length = fread(whole, 1, size - 1, file)) == 0)
-        return 1;
-    scan(whole + length, 1);
-    printf("%lx ", sum);
-    begun = clock();
-    scan(whole + length, 0);
-    seconds = (double)(clock() - begun) / CLOCKS_PER_SEC;
-    printf("%f %lx\n", seconds, sum);
-    return 0;
+        exit(1);
+    fclose(file);
+}
+
+static void begin(void)
+{
+    sum = 0;
+}
+
+static unsigned long result(void)
+{
+    return sum;
 }
 C
-python3 - "$work" "$program" "${ORIGINAL:-re2c}" <<'PYTHON'
-import os, random, re, shutil, subprocess, sys
+PYTHONPATH=bench PYTHONDONTWRITEBYTECODE=1 python3 - "$work" "$program" "${ORIGINAL:-re2c}" <<'PYTHON'
+import os, random, re, resource, shutil, subprocess, sys
+from places import Timed
 work, program, original = sys.argv[1:]
 SIZE = 16 << 20
-TURNS = 5
+TURNS = 7
 EXAMPLES = ('dates', 'log_lines', 'http_messages', 'uris')
 OPERATION = re.compile(rb'\b(yytm?[0-9]+) = |\bYYMTAG[PN] ?\((yytm[0-9]+)\)')
 BLOCK = re.compile(rb'/\*![a-z]*:?re2c\b.*?\*/', re.DOTALL)
-OURS, THEIRS = 'this re2c', 'the original'
+OURS, TWO, THEIRS, BITS, GOTOS = 'this re2c, format 3', 'this re2c, format 2', 'the original', 'the original with -b', 'the original with -g'
 PLAIN, LOOSE = 'the same with --no-optimize-tags', 'the same with --fixed-tags none'
 
 
@@ -287,19 +304,26 @@ def macros(name, made):
     return [f'-DPIECE="{made}"', f'-DSCANNER={scanner}', '-DTAGS=' + ','.join(tags)]
 
 
+def limited():
+    for what, most in ((resource.RLIMIT_CORE, 0), (resource.RLIMIT_CPU, 60), (resource.RLIMIT_AS, 4 << 30)):
+        resource.setrlimit(what, (most, most))
+
+
 def speeds(name, compiler, makers):
-    """Returns the speed of each maker's scanner in MiB a second, the best of some turns, where the compiler's limits are enough."""
-    best, sums = {}, set()
-    words = {maker: [compiler, '-O2', '-w', *macros(name, made), '-o', made[:-2], f'{work}/scan.c'] for maker, made in makers.items()}
-    programs = {maker: made[:-2] for maker, made in makers.items() if within(60, words[maker]) is not None}
-    for _ in range(TURNS):
-        for maker, scanner in programs.items():
-            ran = subprocess.run([scanner, f'{work}/{name}.text'], stdout=subprocess.PIPE, check=True, text=True).stdout.split()
-            best[maker] = min(best.get(maker, 1e9), float(ran[1]))
-            sums.add((ran[0], ran[2]))
-    if len(sums) > 1:
-        raise SystemExit(f'{name}: the scanners differ')
-    return {maker: os.path.getsize(f'{work}/{name}.text') / (1 << 20) / seconds for maker, seconds in best.items()}
+    """Returns the speed of each maker's scanner in MiB a second, where the compiler's limits are enough."""
+    folder = f'{work}/{name}_{compiler}'
+    os.mkdir(folder)
+    shutil.copy(f'{work}/front.h', folder)
+    program = Timed(folder, compiler, '#include "front.h"', limited)
+    for maker, made in makers.items():
+        words = lambda named: [compiler, '-O2', '-w', *macros(name, made), f'-DID={named}', f'{work}/scan.c']
+        program.add(maker, words, lambda named: f'void scan_{named}(const unsigned char *, int);\n'
+                                                f'static void run_{named}(void) {{ scan_{named}(whole + length, all_given); }}')
+    os.environ['CHECKED'] = 'yes'
+    program.run(1, f'{work}/{name}.text')
+    del os.environ['CHECKED']
+    taken = program.run(TURNS, f'{work}/{name}.text')
+    return {maker: os.path.getsize(f'{work}/{name}.text') / (1 << 20) / mean for maker, (mean, _, _) in taken.items()}
 
 
 def shown(value, form='{:,}'):
@@ -318,7 +342,7 @@ def table(name, rows, compilers):
         print(f'  {maker:32}' + ''.join(f'{cell:>14}' for cell in cells))
     for compiler, speed in rows[THEIRS]['speeds'].items() if THEIRS in rows else ():
         if compiler in rows[OURS]['speeds']:
-            print(f'  speed beside the original, {compiler}: {rows[OURS]["speeds"][compiler] / speed:.2f}')
+            print(f'  speed of format 3 beside the original, {compiler}: {rows[OURS]["speeds"][compiler] / speed:.2f}')
     print(flush=True)
 
 
@@ -363,7 +387,7 @@ def alone(name, row):
     if row['seconds'] is None:
         return [(False, f'{name}: not compiled')]
     seconds, size, memory = row['seconds'], row['counts'][3], row['memory'] * 1e6
-    if name == 'sixteen':
+    if name.startswith('sixteen'):
         return [(seconds < 3, f'{name}: {seconds:.2f} s, under 3'), (size < 4_000_000, f'{name}: {size:,} bytes, under 4,000,000')]
     return [(seconds < 60, f'{name}: {seconds:.2f} s, under 60'),
             (memory < 2 ** 31, f'{name}: {memory / 2 ** 30:.2f} GiB of memory, under 2')]
@@ -372,19 +396,19 @@ def alone(name, row):
 def main():
     compilers = [compiler for compiler in ('gcc', 'clang') if shutil.which(compiler)]
     subprocess.run([(compilers or ['cc'])[0], '-O2', '-w', '-o', f'{work}/within', f'{work}/within.c'], check=True)
-    makers, limits = {OURS: (300, [program, '-i', '-T'])}, []
+    makers, limits = {OURS: (300, [program, '-i', '-T', '--x-format', '3']), TWO: (300, [program, '-i', '-T'])}, []
     if shutil.which(original):
         version = subprocess.run([original, '--version'], stdout=subprocess.PIPE, check=True, text=True).stdout.strip()
         print(f'the original is {version}\n')
         words = [original, '-i', '-T', '--no-version', '--no-generation-date']
-        makers |= {THEIRS: (120, words), PLAIN: (120, words + ['--no-optimize-tags']), LOOSE: (120, words + ['--fixed-tags', 'none'])}
+        makers |= {THEIRS: (120, words), BITS: (120, words + ['-b']), GOTOS: (120, words + ['-g']), PLAIN: (120, words + ['--no-optimize-tags']), LOOSE: (120, words + ['--fixed-tags', 'none'])}
     else:
-        print('the original is not installed: nothing is compared with it\n')
+        print('the original is not installed: only ours are measured\n')
     for name, source in sources().items():
         rows = measured(name, source, makers, compilers)
         table(name, rows, compilers)
         if name not in EXAMPLES:
-            limits += alone(name, rows[OURS])
+            limits += alone(f'{name}, format 3', rows[OURS]) + alone(f'{name}, format 2', rows[TWO])
         elif rows[OURS]['seconds'] is None:
             limits.append((False, f'{name}: not compiled'))
         elif THEIRS in rows and rows[THEIRS]['seconds'] is not None:

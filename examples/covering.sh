@@ -11,6 +11,6 @@ work=$(mktemp -d)
 trap 'rm -rf "$work"' EXIT
 
 "$program" -T --x-cover -o "$work/words.txt" "$here/covered.re"
-"$program" -T -i -o "$work/covered.c" "$here/covered.re"
-"${CC:-cc}" -std=c99 "$work/covered.c" -o "$work/covered"
+"$program" -T -i --x-format 3 -o "$work/covered.c" "$here/covered.re"
+"${CC:-cc}" -std=c99 -Wall -Wextra -Werror "$work/covered.c" -o "$work/covered"
 "$work/covered" < "$work/words.txt"

@@ -10,7 +10,7 @@ static void date(void)
 {
 	const unsigned char *YYCURSOR = next;
 	const unsigned char *YYMARKER;
-	const unsigned char *yyt1, *yyt2, *yyt3, *yyt4; /* what holds the tags on the way */
+	const unsigned char *yyt1, *yyt2; /* what holds the tags on the way */
 	const unsigned char *month, *day;
 
 	/*!re2c

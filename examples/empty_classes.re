@@ -8,7 +8,7 @@ enum kind { END, NUMBER, GROUPED, OTHER };
 
 static enum kind form(const unsigned char **at)
 {
-	const unsigned char *YYCURSOR = *at, *YYMARKER;
+	const unsigned char *YYCURSOR = *at;
 	enum kind kind;
 
 	/*!re2c

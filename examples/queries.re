@@ -7,7 +7,7 @@ enum kind { END, SELECT, FROM, WHERE, MARK, NAME, BLANK, OTHER };
 
 static enum kind word(const unsigned char **at)
 {
-	const unsigned char *YYCURSOR = *at, *YYMARKER;
+	const unsigned char *YYCURSOR = *at;
 	enum kind kind;
 
 	/*!re2c

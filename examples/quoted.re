@@ -4,7 +4,6 @@
 #define YYCTYPE unsigned char
 
 static const unsigned char *YYCURSOR;
-static const unsigned char *YYMARKER;
 
 static int next_rule(void)
 {

@@ -11,7 +11,7 @@ static int yynmatch; /* how many groups the rule has, the whole match counted */
 /* Whether a size stands at a place, behind which the scanner leaves the place. */
 static int size(const unsigned char **at)
 {
-	const unsigned char *YYCURSOR = *at, *YYMARKER;
+	const unsigned char *YYCURSOR = *at;
 	/*!stags:re2c format = "const unsigned char *@@;"; separator = "\n\t"; */
 
 	/*!re2c

@@ -6,7 +6,7 @@ typedef unsigned short YYCTYPE;
 /* How many units the sign at a place has, behind which the scanner leaves the place. */
 static int sign(const YYCTYPE **at)
 {
-	const YYCTYPE *start = *at, *YYCURSOR = start, *YYMARKER;
+	const YYCTYPE *start = *at, *YYCURSOR = start;
 
 	/*!re2c
 	re2c:yyfill:enable = 0;

@@ -6,7 +6,7 @@
 /* The letter of what stands at a place, behind which the scanner leaves the place. */
 static char letter(const unsigned int **at)
 {
-	const unsigned int *YYCURSOR = *at, *YYMARKER;
+	const unsigned int *YYCURSOR = *at;
 
 	/*!re2c
 	re2c:yyfill:enable = 0;

@@ -8,7 +8,7 @@ enum kind { NONE, IF, ELSE, WORD, NUMBER };
 
 static enum kind word(const unsigned char **at)
 {
-	const unsigned char *YYCURSOR = *at, *YYMARKER;
+	const unsigned char *YYCURSOR = *at;
 
 	/*!re2c
 	re2c:yyfill:enable = 0;

@@ -29,6 +29,7 @@ STEPS = {
     "stored states, without a head": 97,
     "words, of format 3": 61,
     "conditions and stored states, of format 3": 29,
+    "if and ifx, emitted in format 3": 11,
 }
 
 

@@ -1,9 +1,8 @@
 #!/bin/sh
-# Compares what scanners do on their covering words with what is told of these: scanners that are compiled as C, and the program's own runs
-# of the examples.
+# Compares what scanners do on their covering words with what is told of these, in format 2 and in format 3: scanners that are compiled, and
+# the program's own runs of the examples.
 #
-# Usage: tests/c/covering.sh, from anywhere; RE2C names the program (bin/re2c where it is unset), and CC the compiler (cc where it is
-# unset).
+# Usage: tests/c/covering.sh, from anywhere; RE2C names the program (bin/re2c where it is unset). setup.sh says which compilers are used.
 . "$(dirname "$0")/setup.sh"
 
 # covered NAME UNIT RULE TAGS [OPTION ..]: the rules stand in the file NAME.rules, each with an action that returns its number, among them
@@ -14,20 +13,32 @@ covered() {
 	{
 		printf '#define YYCTYPE %s\n#define RULE %s\n#define TAGS %s\n' "$unit" "$rule" "$(for tag in $tags; do printf 'TAG(%s) ' "$tag"; done)"
 		for tag in $tags; do printf 'static const YYCTYPE *%s;\n' "$tag"; done
-		printf '#include "run.h"\nstatic const YYCTYPE *YYLIMIT;\nstatic int match(void)\n{\n\tconst YYCTYPE *YYMARKER = YYCURSOR;\n'
-		printf '#include "registers.h"\n/*!re2c\nre2c:eof = 0;\nre2c:yyfill:enable = 0;\n'
+		printf '#include <run.h>\nstatic const YYCTYPE *YYLIMIT;\nstatic int match(void)\n{\n\tconst YYCTYPE *YYMARKER = YYCURSOR;\n'
+		printf '#include <registers.h>\n\t(void)YYMARKER;\n/*!re2c\nre2c:eof = 0;\nre2c:yyfill:enable = 0;\n'
 		cat "$work/$name.rules"
-		printf '*/\n\treturn 0;\n}\n#include "cover.h"\n'
+		printf '*/\n\treturn 0;\n}\n#include <cover.h>\n'
 	} > "$work/$name.re"
-	"$program" -i "$@" -o "$work/$name.c" "$work/$name.re"
-	"$program" --x-cover "$@" -o "$work/$name.words" "$work/$name.re"
-	grep -o 'yyt[0-9][0-9]*' "$work/$name.c" | sort -u | sed 's/.*/static const YYCTYPE *&;/' > "$work/registers.h" || true
 	cp "$root/tests/c/run.h" "$root/tests/c/custom.h" "$root/tests/c/cover.h" "$work"
-	# shellcheck disable=SC2086
-	"$compiler" $options "$work/$name.c" -o "$work/$name"
-	"$work/$name" < "$work/$name.words" > "$work/$name.found"
-	grep -v '^scanner ' "$work/$name.words" | diff - "$work/$name.found"
+	for format in $formats; do
+		run_covered "$format" "$@"
+	done
 	echo "$name $*: $(wc -l < "$work/$name.found") words"
+}
+
+# run_covered FORMAT [OPTION ..]: the scanner in one format; the words are the same in all
+run_covered() {
+	format=$1
+	shift
+	# shellcheck disable=SC2046
+	"$program" -i $(words_of "$format") "$@" -o "$work/$name.c" "$work/$name.re"
+	# shellcheck disable=SC2046
+	"$program" --x-cover $(words_of "$format") "$@" -o "$work/$name.words" "$work/$name.re"
+	grep -o 'yyt[0-9][0-9]*' "$work/$name.c" | sort -u | sed 's/.*/static const YYCTYPE *&;/' > "$work/registers.h" || true
+	compile "$format" "$name"
+	for one in $made; do
+		"$one" < "$work/$name.words" > "$work/$name.found"
+		grep -v '^scanner ' "$work/$name.words" | diff - "$work/$name.found" || { echo "$one differs" >&2; exit 1; }
+	done
 }
 
 # rules NAME: the rules of a scanner, from the standard input
@@ -95,10 +106,13 @@ example() {
 	shift 2
 	"$program" --x-cover "$@" -o "$work/words" "$root/examples/$name.re"
 	with_end < "$root/examples/$name.re" > "$work/ended.re"
-	"$program" -i "$@" -I "$root/examples" -o "$work/ended.c" "$work/ended.re"
 	all=$(grep -c ' : ' "$work/words")
 	awk -v step=$((all / 200 + 1)) '/^scanner / || NR % step == 0' "$work/words" > "$work/some"
-	words=$(ran "$size" < "$work/some") || { echo "$name: $words"; exit 1; }
+	for format in $formats; do
+		# shellcheck disable=SC2046
+		"$program" -i $(words_of "$format") "$@" -I "$root/examples" -o "$work/ended.c" "$work/ended.re"
+		words=$(ran "$size" < "$work/some") || { echo "$name: $words"; exit 1; }
+	done
 	echo "$name: $words of $all words"
 }
 

@@ -1,7 +1,8 @@
 #!/bin/sh
-# Compiles the scanners of the examples as C, and runs each: it prints lines that were worked out by hand, and ends with status 0.
+# Compiles the scanners of the examples, as C in format 2 and as C and C++ in format 3, there with and without lines of the source, and runs
+# each: it prints lines that were worked out by hand, and ends with status 0.
 #
-# Usage: tests/c/examples.sh, from anywhere; RE2C names the program (bin/re2c where it is unset), and CC the compiler (cc where it is unset).
+# Usage: tests/c/examples.sh, from anywhere; RE2C names the program (bin/re2c where it is unset). setup.sh says which compilers are used.
 . "$(dirname "$0")/setup.sh"
 
 # prints NAME EXPECTED [OPTION ..]: what the example prints, with blanks for line feeds, where it is compiled with these options
@@ -9,12 +10,26 @@ prints() {
 	name=$1
 	expected=$2
 	shift 2
-	"$program" -i "$@" "$root/examples/$name.re" > "$work/$name.c"
-	# shellcheck disable=SC2086
-	"$compiler" $options "$work/$name.c" -o "$work/$name"
-	"$work/$name" > "$work/$name.out"
-	test "$(tr '\n' ' ' < "$work/$name.out")" = "$expected "
-	echo "$name: $expected"
+	count=0
+	for format in $formats; do
+		printed "$format" "$name" "$expected" -i "$@"
+		test "$format" = 2 || printed "$format" "$name" "$expected" "$@"
+	done
+	echo "$name by $count programs: $expected"
+}
+
+# printed FORMAT NAME EXPECTED [OPTION ..]: the same in one format
+printed() {
+	format=$1 name=$2 expected=$3
+	shift 3
+	# shellcheck disable=SC2046
+	"$program" $(words_of "$format") "$@" -o "$work/$name.c" "$root/examples/$name.re"
+	compile "$format" "$name"
+	for one in $made; do
+		"$one" > "$work/$name.out"
+		test "$(tr '\n' ' ' < "$work/$name.out")" = "$expected " || { echo "$one: $(cat "$work/$name.out")" >&2; exit 1; }
+		count=$((count + 1))
+	done
 }
 
 # warns NAME LINES: what is told of the example with -W, without the name of its file

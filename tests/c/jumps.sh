@@ -1,25 +1,12 @@
 #!/bin/sh
-# Compiles scanners whose rules jump from condition to condition, as C, and runs them over a buffer that is made anew at each refill, with one
+# Compiles scanners whose rules jump from condition to condition, as C in format 2 and as C and C++ in format 3, and runs them over a buffer that is made anew at each refill, with one
 # unit more; those that store their state are left at each refill, too. Matches follow one another by jumps, some end by no rule, and some fall
 # back. What a program prints is compared with the program's own run of the emitted text, line by line, jumps and tags included. Where the
 # compiler has an address sanitizer it is used.
 #
-# Usage: tests/c/jumps.sh, from anywhere; RE2C names the program (bin/re2c where it is unset). CC names the compiler; where it is unset both
-# gcc and clang are tried, and cc where neither is there.
+# Usage: tests/c/jumps.sh, from anywhere; RE2C names the program (bin/re2c where it is unset). setup.sh says which compilers are used.
 . "$(dirname "$0")/setup.sh"
 set -f
-
-compilers=${CC:-}
-for name in gcc clang; do
-	[ -n "${CC:-}" ] || ! command -v "$name" > "$work/log" || compilers="$compilers $name"
-done
-compilers=${compilers:-cc}
-printf 'int main(void) { return 0; }\n' > "$work/empty.c"
-for name in $compilers; do
-	if "$name" -fsanitize=address,undefined "$work/empty.c" -o "$work/empty" 2> "$work/log" && "$work/empty"; then
-		sanitized="${sanitized:-} $name"
-	fi
-done
 
 # What a scanner of each mode is given.
 plain='re2c:yyfill:enable = 0;'
@@ -27,14 +14,15 @@ fixed='re2c:yyfill:enable = 0; re2c:eof = 0;'
 ended='re2c:eof = 0;'
 counted=
 
-# write_source NAME MODE NAMES RULE TAGS OPTIONS: the source of a scanner on the standard output, with the rules of NAME.rules in this mode.
+# write_source NAME MODE NAMES RULE TAGS OPTIONS FORMAT: the source of a scanner on the standard output, with the rules of NAME.rules in this
+# mode. For format 3 it declares no variable that the piece declares.
 write_source() {
 	counts=1 whole=0
 	case $2 in *eof*) counts=0 ;; esac
 	case $2 in *enable*) whole=1 ;; esac
 	printf '#define YYCTYPE unsigned char\n#define COUNTS %s\n#define WHOLE %s\n#define REFILL 1\n' "$counts" "$whole"
 	printf '#define NAMES %s\nenum { %s };\n' "$(for cond in $3; do printf '"%s", ' "$cond"; done)" "$(for cond in $3; do printf 'yyc%s, ' "$cond"; done)"
-	printf '#define TELL(rule) if (rule == %s) { %s }\n#include "lines.h"\n' "$4" \
+	printf '#define TELL(rule) if (rule == %s) { %s }\n#include <lines.h>\n' "$4" \
 		"$(for tag in $5; do case $tag in '#'*) printf 'HISTORY(%s) ' "${tag#?}" ;; *) printf 'TAG(%s) ' "$tag" ;; esac; done)"
 	for tag in $5; do
 		case $tag in
@@ -42,7 +30,11 @@ write_source() {
 		*) printf 'static const YYCTYPE *%s;\n' "$tag" ;;
 		esac
 	done
-	printf '#include "jumps.h"\n'
+	case $7$6 in
+	2*) printf '#include <jumps.h>\n' ;;
+	*' -f '*) printf '#define KEPT 1\n#include <format3.h>\nstatic unsigned char yych;\n' ;;
+	*) printf '#define KEPT 0\n#include <format3.h>\n' ;;
+	esac
 	case $6$counts in
 	*' -f '*1) printf '#define YYFILL(units) wait_for_units()\n' ;;
 	*' -f '*) printf '#define YYFILL() wait_for_units()\n' ;;
@@ -97,27 +89,30 @@ jumped() {
 		# a rule at the end of the input needs a unit there
 		case $mode in *eof*) ;; *) ! grep -q '> \$' "$work/$name.rules" || continue ;; esac
 		case $way in *.-f) stored=-f ;; *.custom) stored='--input custom' ;; *) stored= ;; esac
-		write_source "$name" "$mode" "$names" "$rule" "$tags" " $stored " > "$work/$name.re"
-		# shellcheck disable=SC2086
-		"$program" -i -c "$@" $stored -o "$work/$name.c" "$work/$name.re"
-		lines "$name" "$padding" > "$work/lines.h"
-		cp "$root/tests/c/custom.h" "$root/tests/c/jumps.h" "$work"
-		for one in $compilers; do
-			case " ${sanitized:-} " in *" $one "*) sanitize='-g -fsanitize=address,undefined -fno-sanitize-recover' ;; *) sanitize= ;; esac
-			# shellcheck disable=SC2086
-			"$one" $options -Wno-unused-function $sanitize "$work/$name.c" -o "$work/$name.$one"
-		done
-		for input in $inputs; do
-			printf '%s' "${input#-}" > "$work/$name.in"
-			"$program" --x-run "$work/$name.in" "$work/$name.c" > "$work/$name.wanted"
-			for one in $compilers; do
-				"$work/$name.$one" "$work/$name.in" > "$work/$name.found"
-				diff "$work/$name.wanted" "$work/$name.found" || { echo "$name $way $* by $one differs over $input" >&2; exit 1; }
-			done
-			told=$((told + $(wc -l < "$work/$name.wanted")))
+		for format in $formats; do
+			run_jumped "$@" $stored
 		done
 	done
 	echo "$name $*: $told lines"
+}
+
+# run_jumped [OPTION ..]: the scanner in this format, with its mode and its inputs
+run_jumped() {
+	write_source "$name" "$mode" "$names" "$rule" "$tags" " $* " "$format" > "$work/$name.re"
+	# shellcheck disable=SC2046
+	"$program" -i -c $(words_of "$format") "$@" -o "$work/$name.c" "$work/$name.re"
+	lines "$name" "$padding" > "$work/lines.h"
+	cp "$root/tests/c/custom.h" "$root/tests/c/jumps.h" "$root/tests/c/format3.h" "$work"
+	compile "$format" "$name" sanitized
+	for input in $inputs; do
+		printf '%s' "${input#-}" > "$work/$name.in"
+		"$program" --x-run "$work/$name.in" "$work/$name.c" > "$work/$name.wanted"
+		for one in $made; do
+			"$one" "$work/$name.in" > "$work/$name.found"
+			diff "$work/$name.wanted" "$work/$name.found" || { echo "$one $way $* differs over $input" >&2; exit 1; }
+		done
+		told=$((told + $(wc -l < "$work/$name.wanted")))
+	done
 }
 
 # rules NAME: the rules of a scanner, from the standard input

@@ -1,15 +1,10 @@
 #!/bin/sh
-# Compiles scanners of each mode as C and runs them over a buffer that is made anew at each refill, with one unit more; those that store
+# Compiles scanners of each mode, as C in format 2 and as C and C++ in format 3, and runs them over a buffer that is made anew at each refill, with one unit more; those that store
 # their state are left at each refill, too. What they print is compared with lines that were worked out by hand, and with the program's own
 # run of the emitted text. Where the compiler has an address sanitizer it is used.
 #
-# Usage: tests/c/modes.sh, from anywhere; RE2C names the program (bin/re2c where it is unset), and CC the compiler (cc where it is unset).
+# Usage: tests/c/modes.sh, from anywhere; RE2C names the program (bin/re2c where it is unset). setup.sh says which compilers are used.
 . "$(dirname "$0")/setup.sh"
-
-printf 'int main(void) { return 0; }\n' > "$work/empty.c"
-if "$compiler" -fsanitize=address,undefined "$work/empty.c" -o "$work/empty" 2> "$work/log" && "$work/empty"; then
-	options="$options -g -fsanitize=address,undefined -fno-sanitize-recover"
-fi
 
 # What a scanner of each mode is given.
 plain='re2c:yyfill:enable = 0;'
@@ -29,7 +24,7 @@ refilled() {
 	{
 		printf '#define YYCTYPE unsigned char\n#define RULE %s\n#define PADDING %s\n#define COUNTS %s\n#define WHOLE %s\n' "$rule" "$padding" "$counts" "$whole"
 		printf '#define TAGS %s\n' "$(for tag in $tags; do printf 'TAG(%s) ' "$tag"; done)"
-		printf '#include "registers.h"\n#include "refill.h"\n'
+		printf '#include <registers.h>\n#include <refill.h>\n'
 		for tag in $tags; do printf 'static const YYCTYPE *%s;\n' "$tag"; done
 		case " $* " in
 		*" -f "*)
@@ -49,26 +44,37 @@ refilled() {
 		esac
 		printf 'static int match(void)\n{\n/*!re2c\n%s\n' "$mode"
 		cat "$work/$name.rules"
-		printf '*/\n\treturn 0;\n}\n#include "refilled.h"\n'
+		printf '*/\n\treturn 0;\n}\n#include <refilled.h>\n'
 	} > "$work/$name.re"
-	"$program" -i "$@" -o "$work/$name.c" "$work/$name.re"
+	cp "$root/tests/c/refill.h" "$root/tests/c/refilled.h" "$work"
+	# shellcheck disable=SC2059
+	printf "$input" > "$work/$name.in"
+	echo "$lines" | tr '|' '\n' > "$work/$name.wanted"
+	for format in $formats; do
+		run_refilled "$format" "$@"
+	done
+	echo "$name $*: $(wc -l < "$work/$name.wanted") lines"
+}
+
+# run_refilled FORMAT [OPTION ..]: the scanner in one format
+run_refilled() {
+	format=$1
+	shift
+	# shellcheck disable=SC2046
+	"$program" -i $(words_of "$format") "$@" -o "$work/$name.c" "$work/$name.re"
 	{
 		printf '#define REGISTERS(DO)'
 		grep -o 'yyt[0-9][0-9]*' "$work/$name.c" | sort -u | sed 's/.*/ DO(&)/' | tr -d '\n' || true
 		printf '\n'
 	} > "$work/registers.h"
-	cp "$root/tests/c/refill.h" "$root/tests/c/refilled.h" "$work"
-	# shellcheck disable=SC2059
-	printf "$input" > "$work/$name.in"
-	echo "$lines" | tr '|' '\n' > "$work/$name.wanted"
 	"$program" --x-run "$work/$name.in" "$work/$name.c" > "$work/$name.told"
 	sed 's/ => .*//; s/^jump /rule /' "$work/$name.told" > "$work/$name.run"
 	diff "$work/$name.wanted" "$work/$name.run"
-	# shellcheck disable=SC2086
-	"$compiler" $options "$work/$name.c" -o "$work/$name"
-	"$work/$name" "$work/$name.in" > "$work/$name.found"
-	diff "$work/$name.wanted" "$work/$name.found"
-	echo "$name $*: $(wc -l < "$work/$name.wanted") lines"
+	compile "$format" "$name" sanitized
+	for one in $made; do
+		"$one" "$work/$name.in" > "$work/$name.found"
+		diff "$work/$name.wanted" "$work/$name.found" || { echo "$one differs" >&2; exit 1; }
+	done
 }
 
 # rules NAME: the rules of a scanner, from the standard input

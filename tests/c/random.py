@@ -1,13 +1,16 @@
 #!/usr/bin/env python3
-"""Compiles random scanners as C, and compares what the C programs print with the program's own runs of the emitted text, line by line.
+"""Compiles random scanners, as C in format 2 and as C and C++ in format 3, and compares what these programs print with the program's own runs of
+the emitted text, line by line. The runs in both formats have to be the same too.
 
 A scanner has up to three conditions, with and without a rule for any unit, whose rules jump to one another, and tags, histories, trailing
 contexts, or groups under either order. It is made in one of the four modes, with refills of a few units, with stored states or without,
 through pointers or by primitives, in one of the five encodings. Each runs over some inputs, among them the empty one.
 
 Usage: tests/c/random.py [COUNT [SEED]], from anywhere; COUNT scanners (100 where it is left out), the first of them made from SEED (1).
-RE2C names the program (bin/re2c where it is unset), and CC a compiler; where it is unset gcc and clang are both tried, and cc where neither is
-there. One scanner in ten is compiled with the sanitizers of addresses and of undefined behaviour, where the compiler has them.
+RE2C names the program (bin/re2c where it is unset), and CC a compiler; where it is unset gcc and clang are both tried, and for format 3 g++ and
+clang++, and cc where none is there. FORMATS names the formats, 2 and 3 where it is unset. One scanner in ten is compiled with the sanitizers of
+addresses and of undefined behaviour, where the compiler has them. Outputs of format 3 are compiled with all warnings, also with lines of the
+source in them.
 The status is 0 where nothing differs. A scanner that differs stays in a folder, which is named.
 """
 import os
@@ -19,8 +22,11 @@ import sys
 import tempfile
 
 HERE = os.path.dirname(os.path.abspath(__file__))
-OPTIONS = ["-std=c99", "-Wall", "-Wextra", "-Werror", "-Wno-unused-label", "-Wno-unused-variable", "-Wno-unused-but-set-variable",
-           "-Wno-unused-function"]
+OPTIONS = {
+    2: ["-std=c99", "-Wall", "-Wextra", "-Werror", "-Wno-unused-label", "-Wno-unused-variable", "-Wno-unused-but-set-variable"],
+    3: ["-Wall", "-Wextra", "-Werror", "-pedantic"],
+}
+STANDARDS = {False: ["c99", "c11"], True: ["c++11", "c++17"]}
 SANITIZERS = ["-g", "-fsanitize=address,undefined", "-fno-sanitize-recover"]
 
 # An encoding: its option, the bytes of a unit, its type in C, and how a text is written in it.
@@ -145,7 +151,7 @@ class Scanner:
     # ---- the source and its inputs
 
     def words(self):
-        words = ["-i"] + ([self.encoding[0]] if self.encoding[0] else [])
+        words = [self.encoding[0]] if self.encoding[0] else []
         words += ["-c"] if self.conditions else []
         words += ["-f"] if self.stores else []
         words += {"none": [], "tags": ["-T"], "captures": ["--captures"], "posix": ["-P"]}[self.sort]
@@ -159,7 +165,8 @@ class Scanner:
                 line += (" => " if rule.acts else " :=> ") + rule.goes
             yield line + (" { return %d; }" % number if rule.acts else "")
 
-    def source(self):
+    def source(self, chosen):
+        """The source for a format. For format 3 it declares no variable that the piece declares."""
         counts = self.mode in (PLAIN, COUNTED)
         yield "#define YYCTYPE %s" % self.encoding[2]
         yield "#define COUNTS %d" % counts
@@ -174,11 +181,15 @@ class Scanner:
                 printed = " ".join("%s(%s)" % ("HISTORY" if history else "TAG", name) for name, history in rule.tags)
                 tells.append("if (rule == %d) { %s }" % (number, printed))
         yield "#define TELL(rule) %s" % " ".join(tells)
-        yield '#include "lines.h"'
+        yield "#include <lines.h>"
         for rule in self.rules:
             for name, history in rule.tags:
                 yield "static int %s;" % name if history else "static const YYCTYPE *%s;" % name
-        yield '#include "jumps.h"'
+        if chosen == 2:
+            yield "#include <jumps.h>"
+        else:
+            yield "#define KEPT %d\n#include <format3.h>" % self.stores
+            yield from ["static %s yych;" % self.encoding[2]] if self.stores else []
         if self.stores:
             yield "#define YYFILL(units) wait_for_units()" if counts else "#define YYFILL() wait_for_units()"
         elif counts:
@@ -238,7 +249,7 @@ class Trial:
         self.refused = 0
         self.lines = 0
         self.sanitized = [one for one in compilers if self.has_sanitizers(one)]
-        for name in ("jumps.h", "custom.h"):
+        for name in ("jumps.h", "custom.h", "format3.h"):
             shutil.copy(os.path.join(HERE, name), folder)
 
     def has_sanitizers(self, compiler):
@@ -256,32 +267,65 @@ class Trial:
 
     def one(self, scanner, sanitize):
         """What differs, or nothing."""
-        self.write("s.re", ("\n".join(scanner.source()) + "\n").encode())
-        made = run([self.program] + scanner.words() + ["-o", "s.c", "s.re"], self.folder, (0, 1))
-        if made.returncode == 1:
-            # an empty rule of a context, say, is refused by its name
-            self.refused += 1
-            return None
-        with open(os.path.join(self.folder, "s.c"), encoding="utf-8") as file:
-            self.write("lines.h", ("\n".join(scanner.known(file.read())) + "\n").encode())
+        contents = list(scanner.inputs())
+        told = []
+        for chosen in formats():
+            self.write("s.re", ("\n".join(scanner.source(chosen)) + "\n").encode())
+            words = [self.program, "--x-format", str(chosen)] + scanner.words() + ["-o", "s.c", "s.re"]
+            made = run(words[:1] + ["-i"] + words[1:], self.folder, (0, 1))
+            if made.returncode == 1:
+                # an empty rule of a context, say, is refused by its name
+                self.refused += not told
+                told.append(made.stderr)
+                continue
+            with open(os.path.join(self.folder, "s.c"), encoding="utf-8") as file:
+                self.write("lines.h", ("\n".join(scanner.known(file.read())) + "\n").encode())
+            programs = self.compile(chosen, sanitize)
+            wanted = [self.wanted(content) for content in contents]
+            for content, lines in zip(contents, wanted):
+                self.write("s.in", content)
+                for name in programs:
+                    found = run(["./" + name, "s.in"], self.folder).stdout
+                    if found != lines:
+                        return "in format %d by %s over %r:\n%s-- and not\n%s" % (chosen, name, content, found.decode(), lines.decode())
+            told.append(wanted)
+            if chosen == 3:
+                run(words, self.folder)
+                self.compile(chosen, False)
+        return None if all(one == told[0] for one in told) else "the runs, or the faults, differ by their format"
+
+    def wanted(self, content):
+        """The program's own run."""
+        self.write("s.in", content)
+        lines = run([self.program, "--x-run", "s.in", "s.c"], self.folder).stdout
+        self.lines += lines.count(b"\n")
+        return lines
+
+    def compile(self, chosen, sanitize):
+        """Makes programs of an output, and returns their names: in format 2 as C99, and in format 3 by each standard."""
+        made = []
         for compiler in self.compilers:
+            plus = compiler.endswith("++")
+            if chosen == 2 and plus:
+                continue
             more = SANITIZERS if sanitize and compiler in self.sanitized else []
-            run([compiler] + OPTIONS + more + ["s.c", "-o", "s." + os.path.basename(compiler)], self.folder)
-        for content in scanner.inputs():
-            self.write("s.in", content)
-            wanted = run([self.program, "--x-run", "s.in", "s.c"], self.folder).stdout
-            self.lines += wanted.count(b"\n")
-            for compiler in self.compilers:
-                found = run(["./s." + os.path.basename(compiler), "s.in"], self.folder).stdout
-                if found != wanted:
-                    return "by %s over %r:\n%s-- and not\n%s" % (compiler, content, found.decode(), wanted.decode())
-        return None
+            for standard in STANDARDS[plus] if chosen == 3 else [None]:
+                name = "s.%s" % os.path.basename(compiler) + (".%s" % standard if standard else "")
+                language = ["-x", "c++" if plus else "c", "-std=" + standard] if standard else []
+                run([compiler] + language + OPTIONS[chosen] + ["-isystem", "."] + more + ["s.c", "-o", name], self.folder)
+                made.append(name)
+                more = []
+        return made
+
+
+def formats():
+    return [int(one) for one in os.environ.get("FORMATS", "2 3").split()]
 
 
 def compilers():
     if os.environ.get("CC"):
         return [os.environ["CC"]]
-    return [one for one in ("gcc", "clang") if shutil.which(one)] or ["cc"]
+    return [one for one in ("gcc", "clang", "g++", "clang++") if shutil.which(one)] or ["cc"]
 
 
 def main():

@@ -33,7 +33,7 @@ static int fill(void)
 		padding--;
 		unit = 0;
 	}
-	fresh = malloc(kept + 2);
+	fresh = (unsigned char *)malloc(kept + 2);
 	if (!fresh)
 		exit(1);
 	memcpy(fresh, token, kept);

@@ -30,7 +30,7 @@ int main(int count, char **words)
 		return 1;
 	size = ftell(file);
 	rewind(file);
-	buffer = calloc(1, 1);
+	buffer = (unsigned char *)calloc(1, 1);
 	YYCURSOR = YYLIMIT = YYMARKER = YYCTXMARKER = token = buffer;
 	while (WHOLE && !fill())
 		;

@@ -1,8 +1,8 @@
 #!/bin/sh
-# Compiles scanners with classes, repetitions and tags as C, some of them as custom ones, and runs each beside the program's own run of the emitted text: both
-# print the same lines.
+# Compiles scanners with classes, repetitions and tags, as C in format 2 and as C and C++ in format 3, some of them as custom ones, and runs
+# each beside the program's own run of the emitted text: both print the same lines.
 #
-# Usage: tests/c/rows.sh, from anywhere; RE2C names the program (bin/re2c where it is unset), and CC the compiler (cc where it is unset).
+# Usage: tests/c/rows.sh, from anywhere; RE2C names the program (bin/re2c where it is unset). setup.sh says which compilers are used.
 . "$(dirname "$0")/setup.sh"
 
 # same NAME UNIT RULE TAGS INPUT [OPTION ..]: the rules stand in the file NAME.rules, each with an action that returns its number;
@@ -13,22 +13,33 @@ same() {
 	{
 		printf '#define YYCTYPE %s\n#define RULE %s\n#define TAGS %s\n' "$unit" "$rule" "$(for tag in $tags; do printf 'TAG(%s) ' "$tag"; done)"
 		for tag in $tags; do printf 'static const YYCTYPE *%s;\n' "$tag"; done
-		printf '#include "run.h"\nstatic int match(void)\n{\n\tconst YYCTYPE *YYMARKER = YYCURSOR;\n#include "registers.h"\n'
+		printf '#include <run.h>\nstatic int match(void)\n{\n\tconst YYCTYPE *YYMARKER = YYCURSOR;\n#include <registers.h>\n\t(void)YYMARKER;\n'
 		printf '/*!re2c\nre2c:yyfill:enable = 0;\n'
 		cat "$work/$name.rules"
-		printf '*/\n\treturn 0;\n}\n#include "main.h"\n'
+		printf '*/\n\treturn 0;\n}\n#include <main.h>\n'
 	} > "$work/$name.re"
-	"$program" -i "$@" -o "$work/$name.c" "$work/$name.re"
-	grep -o 'yyt[0-9][0-9]*' "$work/$name.c" | sort -u | sed 's/.*/static const YYCTYPE *&;/' > "$work/registers.h" || true
 	cp "$root/tests/c/run.h" "$root/tests/c/custom.h" "$root/tests/c/main.h" "$work"
 	# shellcheck disable=SC2059
 	printf "$input" > "$work/$name.in"
-	# shellcheck disable=SC2086
-	"$compiler" $options "$work/$name.c" -o "$work/$name"
-	"$work/$name" "$work/$name.in" > "$work/$name.found"
-	"$program" --x-run "$work/$name.in" "$work/$name.c" > "$work/$name.wanted"
-	diff "$work/$name.wanted" "$work/$name.found"
+	for format in $formats; do
+		run_same "$format" "$@"
+	done
 	echo "$name: $(wc -l < "$work/$name.wanted") lines"
+}
+
+# run_same FORMAT [OPTION ..]: the scanner in one format
+run_same() {
+	format=$1
+	shift
+	# shellcheck disable=SC2046
+	"$program" -i $(words_of "$format") "$@" -o "$work/$name.c" "$work/$name.re"
+	grep -o 'yyt[0-9][0-9]*' "$work/$name.c" | sort -u | sed 's/.*/static const YYCTYPE *&;/' > "$work/registers.h" || true
+	compile "$format" "$name"
+	"$program" --x-run "$work/$name.in" "$work/$name.c" > "$work/$name.wanted"
+	for one in $made; do
+		"$one" "$work/$name.in" > "$work/$name.found"
+		diff "$work/$name.wanted" "$work/$name.found" || { echo "$one differs" >&2; exit 1; }
+	done
 }
 
 # rules NAME: the rules of a scanner, from the standard input
