@@ -8,6 +8,7 @@ use Rattle.lx_regex.specs.Pattern.{patterns_of, terms_of}
 use Rattle.lx_renumber.specs.Renumbered.{renumbered, renumbered_pattern}
 use Rattle.lx_rules.specs.declared.resolved.Scanner.{Scanner}
 use Rattle.lx_tdfa.specs.Promise.{IsAutoUnder}
+use Rattle.lx_compile.proofs.MetStates.{HasMetStates-renumbered}
 use Rattle.lx_compile.specs.Models.{DiffersBy, IsModel}
 use Rattle.lx_compile.specs.Options.{asks_for_cover, policy_of}
 use Rattle.lx_compile.specs.ScannerFaults.{AreTooManyFor}
@@ -23,7 +24,15 @@ module _ (options : Options) (scanner : Scanner) (model : Model) where
   DiffersBy-renumbered serves unasked None alike is same apart read interfere = tt
   DiffersBy-renumbered serves unasked (Some by) alike is same apart read interfere = record {
     alike = alike;
-    made = (is, record { states = apart; operations = read; registers = interfere });
+    made = (
+      is,
+      record {
+        met = HasMetStates-renumbered by model.auto.now serves.reduced.met;
+        states = apart;
+        operations = read;
+        registers = interfere;
+      },
+    );
     faultless = ((λ large. serves.few (subst (AreTooManyFor options) same large)), (λ sum long. let asked = long.0 in cc));
     unasked = unasked;
   }

@@ -15,6 +15,7 @@ pub mod LineRuns
 pub mod LinesAfter
 pub mod ListedRegisters
 pub mod MadeRuns
+pub mod MetStates
 pub mod NoRegisters
 pub mod OneBlock
 pub mod OneFault

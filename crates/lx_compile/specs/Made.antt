@@ -1,5 +1,5 @@
 -- What is made of the parts of a source: the pieces of scanners, before the text of any directive.
-use Rattle.std.specs.Prelude.{◌≡◌, ℕ, suc, ◌+◌, Bool, List, [], ◌∷◌, Option, Some, None, slice_index_or, if◌then◌else◌}
+use Rattle.std.specs.Prelude.{◌≡◌, ◌<◌, ℕ, suc, ◌+◌, length, Bool, List, [], ◌∷◌, Option, Some, None, slice_index_or, if◌then◌else◌}
 use Rattle.std.specs.List.{AllByRecursion}
 use Rattle.lx_auto.specs.declared.automaton.Auto.{Auto}
 use Rattle.lx_base.specs.declared.places.Pos.{Pos}
@@ -8,6 +8,7 @@ use Rattle.lx_ccode.specs.Counts.{state_count}
 use Rattle.lx_ccode.specs.declared.piece.LineMark.{LineMark}
 use Rattle.lx_ccode.specs.declared.piece.Piece.{Piece}
 use Rattle.lx_gen.specs.Generated.{AreAutomataUnder, AreRightUnder, IsGenerated, marks_of}
+use Rattle.lx_layout.specs.LiveBlocks.{IsLive}
 use Rattle.lx_rules.specs.declared.resolved.Resolved.{Resolved}
 use Rattle.lx_compile.specs.Covering.{AreCovered}
 use Rattle.lx_compile.specs.Options.{policy_of}
@@ -39,6 +40,8 @@ pub record IsScannerPiece (setting : Setting) (number first_state : ℕ) (line :
   pub reduced : AllByRecursion IsReduced autos
   pub generated : IsGenerated setting.options resolved autos checks setting.names number first_state setting.own_switch line piece
   pub right : AreRightUnder (policy_of setting.options) setting.options (marks_of line setting.names) resolved piece
+  -- no block is dead
+  pub live : (block : ℕ) → block < length piece.blocks → IsLive piece block
 
 -- This is made of what a block gives, whose opener stands at a place and whose end in a line, where the piece has this number and its states are
 -- numbered from a first one on; behind it they are from `next` on. With a piece of scanners stand their warnings, and the text of their

@@ -2,10 +2,12 @@
 use Rattle.lx_auto.specs.declared.automaton.Auto.{Auto}
 use Rattle.lx_auto.specs.Live.{AllInterfere, EachTargetIsRead}
 use Rattle.lx_auto.specs.ToldApart.{AllAreToldApart}
+use Rattle.lx_layout.specs.LiveBlocks.{HasMetStates}
 
--- A word tells any two states apart, what each operation does is read on some walk before it is written again, and any two registers of one
--- sort interfere.
+-- Some walk comes to each state, a word tells any two states apart, what each operation does is read on some walk before it is written again,
+-- and any two registers of one sort interfere.
 pub record IsReduced (auto : Auto) : Type 0 where
+  pub met : HasMetStates auto
   pub states : AllAreToldApart auto
   pub operations : EachTargetIsRead auto
   pub registers : AllInterfere auto

@@ -188,7 +188,7 @@ pub(crate) fn right_ones<'a>(
 ) -> &'a [FirstQuestion]
     ensures { AreFirst table.now top (record { tests = seen_stretches tests.now; last = last }) (seen_first result.now) }
 {
-    if are_first(table, top, tests, last, proposed) {
+    if !proposed.is_empty() && are_first(table, top, tests, last, proposed) {
         return proposed;
     }
     &proposed[..0]

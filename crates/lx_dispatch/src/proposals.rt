@@ -170,6 +170,9 @@ fn own_question(
     tests: &[Stretch],
     last: Option<usize>,
 ) -> Option<FirstQuestion> {
+    if own.is_empty() {
+        return None;
+    }
     match (own.first_from(0), set_number(masks, own)) {
         (Some(unit), Some(set)) => Some(FirstQuestion {
             question: Question::Among(set),

@@ -12,3 +12,4 @@ pub mod PieceLaws
 pub mod ScannerLaws
 pub mod Fronts
 pub mod Jumps
+pub mod LiveBlocks

@@ -15,6 +15,7 @@ pub mod Halting
 pub mod LaidParts
 pub mod LikeScanners
 pub mod Layout
+pub mod LiveBlocks
 pub mod Marks
 pub mod NumberIndexes
 pub mod Numbers

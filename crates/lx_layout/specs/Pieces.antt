@@ -38,6 +38,7 @@ use Rattle.lx_layout.specs.EndedRules.{EndsRules}
 use Rattle.lx_layout.specs.FewTests.{HasFewTests}
 use Rattle.lx_layout.specs.Forgetting.{JumpsForget, endings_in}
 use Rattle.lx_auto.specs.Shapes.{AreAgreed}
+use Rattle.lx_layout.specs.LiveBlocks.{HasMetStates, IsLive}
 use Rattle.lx_layout.specs.Parts.{Demand, Given, IsPartOf, Part, checked, checked_by}
 use Rattle.lx_layout.specs.RightInMode.{HaveEndings, IsRightInMode}
 use Rattle.lx_layout.specs.Writable.{CanBeWritten}
@@ -247,6 +248,8 @@ pub record IsPieceOf (form : Form) (scanners : List Source) (piece : Piece) : Ty
   pub actions : AllByRecursion (IsActionOf scanners) (all_statements piece.blocks)
   pub stand : AllByRecursion (λ (scanner : Source).
       IsScannerIn (mode_of form.eof form.fill) form.enc (given_of form piece.table scanner) scanner.checks piece) scanners
+  -- no block is dead, where each state of each automaton is met
+  pub live : AllByRecursion (λ (scanner : Source). HasMetStates scanner.auto) scanners → (block : ℕ) → block < length piece.blocks → IsLive piece block
 
 -- with a table of sets each scanner has a part
 abbrev pub ArePartsOf : Form → (table : List ℕ) → List Source → List Part → Type 0

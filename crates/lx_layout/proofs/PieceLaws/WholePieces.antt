@@ -34,6 +34,7 @@ use Rattle.lx_layout.specs.Pieces.{AreFit, ArePartsOf, Form, HasFields, IsAction
 use Rattle.lx_layout.specs.Switches.{cond_cases}
 use Rattle.lx_layout.specs.Writable.{PartsCanBeWritten}
 use Rattle.lx_layout.proofs.Jumps.ForgettingSources.{conds_of-in, fit_in}
+use Rattle.lx_layout.proofs.LiveBlocks.LivePieces.{parts_live, parts_met}
 use Rattle.lx_layout.proofs.PartLayouts.AskingParts.{needs_none, refills_after, states_before, tries_none}
 use Rattle.lx_layout.proofs.PartLayouts.ClosedParts.{all_end}
 use Rattle.lx_layout.proofs.PartLayouts.OwnRegisters.{parts_own}
@@ -246,4 +247,6 @@ module _ (form : Form) (given : List Source) (parts : List Part) (piece : Piece)
     forgets = forgets;
     actions = actions;
     stand = stand;
+    live = λ met. parts_live piece is_valid.states_differ (greatest_unit form.enc) form.first_state parts blocks are_parts
+        (parts_stand form.first_state parts piece.blocks blocks) begin (parts_met form piece.table piece.blocks given parts are met);
   }

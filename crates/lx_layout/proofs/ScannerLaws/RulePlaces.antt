@@ -36,7 +36,7 @@ slice_get-front (first ∷ a) b (suc k) x is = slice_get-front a b k x is
 -- ---- the places of rules
 
 -- each of the first accepts has a rule of its own
-own_rules : (halting : Halting) (choose : ℕ → State → Option Accept) (found : List Accept) (number : ℕ) (states : List State) → HaveOwnRules found
+pub own_rules : (halting : Halting) (choose : ℕ → State → Option Accept) (found : List Accept) (number : ℕ) (states : List State) → HaveOwnRules found
     → HaveOwnRules (firsts_from halting choose found number states)
 own_rules halting choose found number [] h = h
 own_rules halting choose found number (given ∷ states) h =
@@ -48,7 +48,7 @@ none_at rule [] j accept none is = absurd (cc)
 none_at rule (first ∷ list) zero accept none is = let same : first ≡ accept = cc in subst (λ (a : Accept). rule ≢ a.rule) same none.0
 none_at rule (first ∷ list) (suc j) accept none is = none_at rule list j accept none.1 is
 
-own_place : (list : List Accept) (j : ℕ) (accept : Accept) → HaveOwnRules list → slice_get list j ≡ Some accept → rule_place list accept.rule ≡ j
+pub own_place : (list : List Accept) (j : ℕ) (accept : Accept) → HaveOwnRules list → slice_get list j ≡ Some accept → rule_place list accept.rule ≡ j
 own_place [] j accept own is = absurd (cc)
 own_place (first ∷ list) zero accept own is =
     let same : accept.rule ≡ first.rule = ap (λ (a : Accept). a.rule) (let e : accept ≡ first = cc in e) in

@@ -1,4 +1,4 @@
-use Rattle.std.proofs.Common.{◌≡◌, ◌∷◌, ◌++◌, List, refl, subst, sym}
+use Rattle.std.proofs.Common.{◌≡◌, ◌∷◌, ◌++◌, refl, subst, sym}
 use Rattle.lx_compile.specs.Facts.{fault_among}
 use Rattle.lx_compile.specs.Writing.{made_text}
 use Rattle.lx_compile.specs.declared.made.Made.{Made}
