@@ -2,7 +2,7 @@
 
 Where code stands in a line moves the speed of a scanner by up to a fifth. So each function is compiled four times, and each copy stands
 behind so many bytes that it begins at another quarter of a line. At each place the best of some turns counts, and of the places the mean.
-`bench/scanning.sh` and `bench/tags.sh` use it.
+`bench/scanning.sh`, `bench/names.sh` and `bench/tags.sh` use it.
 """
 import subprocess
 
