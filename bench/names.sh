@@ -22,24 +22,8 @@ if [ -z "$program" ]; then
     program=$(find crates/re2c/out -maxdepth 1 -type f -name re2c | head -1)
 fi
 cat > "$work/front.h" <<'C'
-#include <stdio.h>
-#include <stdlib.h>
 #include <string.h>
 unsigned long counts[3];
-static unsigned char *whole;
-
-static void take(const char *name)
-{
-    FILE *file = fopen(name, "rb");
-    long size;
-
-    if (!file || fseek(file, 0, SEEK_END) || (size = ftell(file)) < 0 || !(whole = calloc((size_t)size + 1, 1)))
-        exit(1);
-    rewind(file);
-    if (fread(whole, 1, (size_t)size, file) != (size_t)size)
-        exit(1);
-    fclose(file);
-}
 
 static void begin(void)
 {
@@ -53,7 +37,7 @@ static unsigned long result(void)
 C
 PYTHONPATH=bench PYTHONDONTWRITEBYTECODE=1 python3 - "$work" "$program" "${ORIGINAL:-re2c}" "${1:-16}" "${2:-7}" <<'PYTHON'
 import os, random, shutil, subprocess, sys
-from places import Timed
+from places import WHOLE, Timed
 work, program, original, megabytes, turns = sys.argv[1:]
 SIZE, TURNS = int(megabytes) << 20, int(turns)
 OURS, TWO, DEFAULT, NESTED, BITS, GOTOS = 'format 3', 'format 2', 'default', '-s', '-b', '-g'
@@ -115,7 +99,7 @@ def timed(compiler, found):
     folder = f'{work}/{compiler}'
     os.mkdir(folder)
     shutil.copy(f'{work}/front.h', folder)
-    made = Timed(folder, compiler, '#include "front.h"')
+    made = Timed(folder, compiler, WHOLE + '#include "front.h"')
     for maker, emitted in found.items():
         words = lambda named, emitted=emitted: [compiler, '-O2', '-w', f'-Dlex=lex_{named}', emitted]
         run = lambda named: f'int lex_{named}(const unsigned char *);\nstatic void run_{named}(void) {{ lex_{named}(whole); }}'

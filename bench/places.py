@@ -8,6 +8,25 @@ import subprocess
 
 PLACES = (0, 16, 32, 48)
 PAD = '.text\n.p2align 6\n.skip {}\n.section .note.GNU-stack,"",@progbits\n'
+# for a front: what reads a file, behind which a 0 stands
+WHOLE = r'''
+#include <stdio.h>
+#include <stdlib.h>
+static unsigned char *whole;
+
+static void take(const char *name)
+{
+    FILE *file = fopen(name, "rb");
+    long size;
+
+    if (!file || fseek(file, 0, SEEK_END) || (size = ftell(file)) < 0 || !(whole = calloc((size_t)size + 1, 1)))
+        exit(1);
+    rewind(file);
+    if (fread(whole, 1, (size_t)size, file) != (size_t)size)
+        exit(1);
+    fclose(file);
+}
+'''
 DRIVER = r'''
 #include <stdio.h>
 #include <stdlib.h>

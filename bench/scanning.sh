@@ -132,20 +132,6 @@ C
 cat > "$work/front.h" <<'C'
 #include <string.h>
 unsigned long counts[41], spans;
-static unsigned char *whole;
-
-static void take(const char *name)
-{
-    FILE *file = fopen(name, "rb");
-    long size;
-
-    if (!file || fseek(file, 0, SEEK_END) || (size = ftell(file)) < 0 || !(whole = calloc((size_t)size + 1, 1)))
-        exit(1);
-    rewind(file);
-    if (fread(whole, 1, (size_t)size, file) != (size_t)size)
-        exit(1);
-    fclose(file);
-}
 
 static void begin(void)
 {
@@ -164,7 +150,7 @@ static unsigned long result(void)
 C
 PYTHONPATH=bench PYTHONDONTWRITEBYTECODE=1 python3 - "$work" "$program" "${ORIGINAL:-re2c}" "${1:-64}" "${2:-7}" "$picture" <<'PYTHON'
 import json, os, random, re, resource, shutil, subprocess, sys
-from places import Timed
+from places import WHOLE, Timed
 work, program, original, megabytes, turns, picture = sys.argv[1:]
 SIZE = int(megabytes) << 20
 TURNS = int(turns)
@@ -328,7 +314,7 @@ def timed(compiler, cursor, scanners):
     folder = f'{work}/{compiler}_{cursor}'
     os.mkdir(folder)
     shutil.copy(f'{work}/front.h', folder)
-    program = Timed(folder, compiler, '#include "front.h"', limited)
+    program = Timed(folder, compiler, WHOLE + '#include "front.h"', limited)
     for maker, made in scanners.items():
         more = lambda named: [f'-DYYCURSOR=cursor_{named}'] if cursor == 'global' else []
         words = lambda named: [compiler, '-O2', '-w', '-I', work, *CURSORS[cursor], *more(named), f'-Dlex=lex_{named}', made]
