@@ -5,6 +5,7 @@
 
 pub mod blocks;
 pub mod faults;
+pub mod laws;
 pub mod letters;
 pub mod limits;
 pub mod lists;
