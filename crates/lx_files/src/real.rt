@@ -1,7 +1,8 @@
 //! The files of the system, and sinks over its writers.
 //!
 //! They tell neither what is held nor what was given: no contract can say what a system keeps.
-ghost use Rattle.std.specs.Prelude.{◌<◌, ◌≤◌, None, IfSome, length};
+ghost use Rattle.std.specs.Prelude.{◌≡◌, ◌<◌, ◌≤◌, None, IfOk, IfErr, IfSome, length};
+ghost use Rattle.lx_files.specs.declared.real.Unread.TheVariants.{TooLong};
 
 use crate::counts::one_more;
 use crate::files::{Files, ReadAnswer, WriteAnswer};
@@ -63,7 +64,7 @@ impl<'r, R: rt::Files> Files for RealFiles<'r, R> {
 
 fn read_file<R: rt::Files>(system: &R, alloc: Global, name: &str) -> Result<Vec<u8>, ReadAnswer> {
     match fs::open(system, name) {
-        Ok(mut file) => read_to_end(alloc, &mut file, told_length(system, name)),
+        Ok(mut file) => read_to_end(alloc, &mut file, told_length(system, name)).map_err(answer_to),
         Err(error) => Err(answer_of(&error)),
     }
 }
@@ -73,6 +74,13 @@ fn told_length<R: rt::Files>(system: &R, name: &str) -> usize {
     match fs::metadata(system, name) {
         Ok(told) if told.len() <= LONGEST_FILE as u64 => told.len() as usize,
         _ => 0,
+    }
+}
+
+fn answer_to(why: Unread) -> ReadAnswer {
+    match why {
+        Unread::TooLong => ReadAnswer::Failed,
+        Unread::Refused(answer) => answer,
     }
 }
 
@@ -87,42 +95,35 @@ fn answer_of(error: &io::Error) -> ReadAnswer {
 /// How many bytes may be put behind those of a file before they are copied.
 const SPARE_ROOM: usize = 4096;
 
-/// All bytes of a file, read piece by piece. Each turn gets a byte or was interrupted, so there are no more
-/// turns than bytes that a file may have, and then one.
+/// Why the bytes of a file are not given.
+#[derive(Clone, Copy, Debug, PartialEq, Eq)]
+pub enum Unread {
+    /// It has more than 268,435,456 bytes.
+    TooLong,
+    /// A read was refused: `Missing` where it says that there is no file, and `Memory` where memory is wanting, or else `Failed`.
+    Refused(ReadAnswer),
+}
+
+/// All bytes of a file from here on, of which there may be 268,435,456.
 ///
 /// Room for `expected` bytes is taken first, and for some that a caller may put behind them, so that a file of that length is not copied
 /// while it is read.
 ///
-/// It refuses with `Failed` where the file has more than 268,435,456 bytes or a read fails, with `Missing` where a read says
-/// that there is no file, and with `Memory` where memory is wanting.
-pub fn read_to_end<F: Read>(
-    alloc: Global,
-    file: &mut F,
-    expected: usize,
-) -> Result<Vec<u8>, ReadAnswer> {
+/// It refuses with `TooLong` where the file has more, and where a read is refused or memory is wanting.
+pub fn read_to_end<F: Read>(alloc: Global, file: &mut F, expected: usize) -> Result<Vec<u8>, Unread>
+    ensures few { IfOk result (λ bytes. length bytes.items ≤ 268435456) }
+    ensures all { IfOk result (λ bytes. IfSome (F.remaining file.old) (λ rest. bytes.items ≡ rest)) }
+    ensures longer { IfErr result (λ why. why ≡ TooLong → IfSome (F.remaining file.old) (λ rest. 268435456 < length rest)) }
+{
     let Ok(mut bytes) = Vec::with_capacity(alloc, expected.min(LONGEST_FILE) + SPARE_ROOM) else {
-        return Err(ReadAnswer::Memory);
+        return Err(Unread::Refused(ReadAnswer::Memory));
     };
-    let mut buffer = [0u8; 16384];
-    for _ in 0..=LONGEST_FILE {
-        match file.read(&mut buffer) {
-            Ok(0) => return Ok(bytes),
-            Ok(count) => {
-                if count > LONGEST_FILE - bytes.len().min(LONGEST_FILE) {
-                    return Err(ReadAnswer::Failed);
-                }
-                if bytes.extend_from_slice(&buffer[..count]).is_err() {
-                    return Err(ReadAnswer::Memory);
-                }
-            }
-            Err(error) => {
-                if error.kind() != io::ErrorKind::Interrupted {
-                    return Err(answer_of(&error));
-                }
-            }
-        }
+    let mut front = file.take(LONGEST_FILE as u64 + 1);
+    match front.read_to_end(&mut bytes) {
+        Ok(count) if count <= LONGEST_FILE => Ok(bytes),
+        Ok(_) => Err(Unread::TooLong),
+        Err(error) => Err(Unread::Refused(answer_of(&error))),
     }
-    Err(ReadAnswer::Failed)
 }
 
 fn write_file<R: rt::Files>(system: &R, name: &str, bytes: &[u8]) -> io::Result<()> {
