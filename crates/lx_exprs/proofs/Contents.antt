@@ -1,4 +1,5 @@
 -- What is kept of what is read.
+pub mod KindContents
 pub mod LeafContents
 pub mod LeafSteps
 pub mod MemberCopies

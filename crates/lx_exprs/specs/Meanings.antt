@@ -79,6 +79,10 @@ abbrev mutual
   shifted_all by groups nil = nil
   shifted_all by groups (cons member members) = cons (shifted by groups member) (shifted_all by groups members)
 
+-- tags whose numbers are greater by one number, each with whether it is an m-tag
+abbrev pub moved : (by : ℕ) → List (ℕ × Bool) → List (ℕ × Bool)
+moved by kinds = map (λ (one : ℕ × Bool). (one.0 + by, one.1)) kinds
+
 -- a term in a rule with so many tags: the ends of its groups have the numbers behind these
 abbrev mutual
   pub behind : (tags : ℕ) → Term → Term

@@ -2,6 +2,7 @@
 use Rattle.std.specs.Prelude.{◌≡◌, ℕ, ◌+◌, ◌↔◌, ◌&&◌, max, true, List, is_some}
 use Rattle.lx_class.specs.Ranges.{InRanges, IsCanonical}
 use Rattle.lx_class.specs.declared.ranges.Range.{Range}
+use Rattle.lx_regex.specs.declared.rules.Tag.{Tag}
 use Rattle.lx_exprs.specs.declared.operands.Holed.{Holed}
 use Rattle.lx_exprs.specs.declared.operands.Operand.{Operand}
 use Rattle.lx_exprs.specs.declared.operands.Operand.TheVariants as operand
@@ -9,7 +10,7 @@ use Rattle.lx_exprs.specs.declared.values.Room.{Room}
 use Rattle.lx_exprs.specs.Checks.{IsIn}
 use Rattle.lx_exprs.specs.Defined.{Meaning, one, kept, meant_class}
 use Rattle.lx_exprs.specs.Meanings.{set_term}
-use Rattle.lx_exprs.specs.Values.{IsBounded, IsValue}
+use Rattle.lx_exprs.specs.Values.{HasValueKinds, IsBounded, IsValue}
 
 -- the points that are left of a class
 abbrev pub IsLeft : Holed → ℕ → Type 0
@@ -49,3 +50,8 @@ IsOperand room meaning (operand.Holed holed) = IsHoled meaning holed × IsOneCla
 abbrev pub IsBoundedOperand : Operand → Type 0
 IsBoundedOperand (operand.Whole value) = IsBounded value
 IsBoundedOperand (operand.Holed holed) = Unit {0}
+
+-- its tags are of the kinds that they have among the tags of an item; a difference that is put off has none
+abbrev pub HasOperandKinds : List Tag → Operand → Type 0
+HasOperandKinds tags (operand.Whole value) = HasValueKinds tags value
+HasOperandKinds tags (operand.Holed holed) = Unit {0}

@@ -1,5 +1,6 @@
 -- The reading of an expression, step by step.
 use Rattle.std.specs.Prelude.{◌≡◌, ◌≤◌, ℕ, suc, ◌+◌, ◌-◌, max, true, false, Bool, List, [], ◌∷◌, ◌++◌, reverse, Some, None, Result, Ok, Err, MatchResult, ◌&&◌, is_some, if◌then◌else◌}
+use Rattle.std.specs.List.{AllByRecursion}
 use Rattle.lx_base.specs.declared.faults.Fault.{Fault}
 use Rattle.lx_base.specs.declared.faults.Fault.TheVariants.{NotClass}
 use Rattle.lx_base.specs.declared.faults.Stop.{Stop}
@@ -17,7 +18,7 @@ use Rattle.lx_exprs.specs.Defined.{Before, Definition, Meaning, and_more, kept, 
 use Rattle.lx_exprs.specs.Meanings.{IsClassMeaning, IsLeafMeaning, alternated, enclosed, followed, grouped, in_group, repeated_by}
 use Rattle.lx_exprs.specs.Checks.{Check, Then, Finds, IsFilled, IsIn, LeafChecks, StopsAt, are_groups, bounds_fault, bounds_of}
 use Rattle.lx_forms.specs.Steps.{Step, reads, opens, closes, repeats, joins, subtracts, chooses}
-use Rattle.lx_exprs.specs.Operands.{IsBoundedOperand, IsOperand}
+use Rattle.lx_exprs.specs.Operands.{HasOperandKinds, IsBoundedOperand, IsOperand}
 use Rattle.lx_exprs.specs.Values.{IsValue}
 
 -- What is read before a step: meanings that are not yet put together, the last one first, all tags and groups so far, and how many
@@ -180,6 +181,14 @@ AreValues room (meaning ∷ meanings) (value ∷ values) = IsOperand room meanin
 abbrev pub AreBounded : List Operand → Type 0
 AreBounded [] = Unit {0}
 AreBounded (value ∷ values) = IsBoundedOperand value × AreBounded values
+
+-- the tags of each operand are of the kinds that they have among the tags of an item
+abbrev pub HaveOperandKinds : List Tag → List Operand → Type 0
+HaveOperandKinds tags values = AllByRecursion (HasOperandKinds tags) values
+
+-- among the tags that are read
+abbrev pub HasOwnKinds : Held → Type 0
+HasOwnKinds held = HaveOperandKinds held.seen held.values.items
 
 -- what is held stands for what is read
 pub record AreOperands (room : Room) (operands : Operands) (held : Held) : Type 0 where

@@ -1,10 +1,12 @@
 -- What is kept of what is read of an expression.
-use Rattle.std.specs.Prelude.{◌≡◌, ℕ, ◌+◌, ◌*◌, ◌≤◌, ◌<◌, ◌↔◌, Bool, true, false, List, Option, Some, None, map, sum, not}
+use Rattle.std.specs.Prelude.{◌≡◌, ℕ, ◌+◌, ◌*◌, ◌≤◌, ◌<◌, ◌↔◌, Bool, true, false, List, [], Option, Some, None, map, sum, not}
 use Rattle.lx_base.specs.declared.limits.TheConstants.{SIZE_LIMIT, TAG_LIMIT}
 use Rattle.lx_class.specs.Ranges.{InRanges}
 use Rattle.lx_class.specs.declared.ranges.Range.{Range}
 use Rattle.lx_regex.specs.Expr.{members_of, size_of, term_of}
+use Rattle.lx_regex.specs.Kinds.{HaveKinds, joined, kinds_of}
 use Rattle.lx_regex.specs.Term.{Term, Terms, IsInRanges, empty, class, any_unit, cat, alt, repeat, tag, group, nil, cons}
+use Rattle.lx_regex.specs.declared.rules.Tag.{Tag}
 use Rattle.lx_exprs.specs.declared.values.Content.{Content}
 use Rattle.lx_exprs.specs.declared.values.Content.TheVariants as content
 use Rattle.lx_exprs.specs.declared.values.Room.{Room}
@@ -100,3 +102,17 @@ pub record IsBounded (value : Value) : Type 0 where
   pub some : 1 ≤ value.size
   pub size : content_size value.content ≤ value.size
   pub tags : AreTagsBelow value.tags value.content
+
+-- the tags in what is kept, each with whether it is an m-tag
+abbrev pub content_kinds : Content → List (ℕ × Bool)
+content_kinds (content.One expr) = kinds_of expr
+content_kinds (content.Row members) = joined (map kinds_of members.items)
+content_kinds (content.Choice members) = joined (map kinds_of members.items)
+content_kinds (content.Past set alternatives) = []
+
+-- these are of the kinds that they have among the tags of an item
+abbrev pub HasKinds : List Tag → Content → Type 0
+HasKinds tags held = HaveKinds tags (content_kinds held)
+
+abbrev pub HasValueKinds : List Tag → Value → Type 0
+HasValueKinds tags value = HasKinds tags value.content

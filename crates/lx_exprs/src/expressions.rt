@@ -10,13 +10,14 @@ ghost use Rattle.lx_exprs.specs.Expressions.{ExpressionChecks};
 ghost use Rattle.lx_exprs.specs.Expressions.{ChecksBehind, IsRead, IsReadBehind};
 ghost use Rattle.lx_forms.specs.Lexemes as lexical;
 ghost use Rattle.lx_forms.specs.Lexemes.{sort_at, sorts_at};
-ghost use Rattle.lx_exprs.specs.Reading.{AreBounded, AreInOrder, AreTaken, DifferenceChecks, IsDifference, StopsReading, operands_behind, paired};
+ghost use Rattle.lx_exprs.specs.Reading.{AreBounded, AreInOrder, AreTaken, DifferenceChecks, HasOwnKinds, IsDifference, StopsReading, operands_behind, paired};
 ghost use Rattle.lx_exprs.specs.Seen.{scope_view};
 ghost use Rattle.lx_forms.specs.Seen.{lexeme_view, lexemes_view};
 ghost use Rattle.lx_exprs.specs.FitDefinitions.{ScopeFits};
 ghost use Rattle.lx_forms.specs.StepViews.{step_view};
-ghost use Rattle.lx_exprs.specs.Operands.{IsBoundedOperand, IsOperand};
-ghost use Rattle.lx_exprs.specs.Values.{IsBounded, IsRoom, IsValue};
+ghost use Rattle.lx_exprs.specs.Operands.{HasOperandKinds, IsBoundedOperand, IsOperand};
+ghost use Rattle.lx_exprs.specs.Values.{HasValueKinds, IsBounded, IsRoom, IsValue};
+ghost use Rattle.lx_regex.specs.declared.rules.Tag.{Tag as tag_type};
 
 use crate::leaves::{Reader, read_leaf, read_set};
 use crate::operands::Operand;
@@ -135,6 +136,7 @@ fn difference(
         × ((meaning : Meaning) × IsDifference reader.entry.options.now definitions is_operand first second meaning × IsOperand reader.entry.room meaning operand))
         (StopsAt (DifferenceChecks reader.entry.options.now definitions is_operand first second sign)) }
     ensures bounded { IfOk result IsBoundedOperand }
+    ensures kinds { (tags : List tag_type) → IfOk result (HasOperandKinds tags) }
 {
     let Some(whole) = left.into_holed(alloc)? else {
         return Err(Stop::Fault(Fault::NotClass { at }));
@@ -162,6 +164,7 @@ fn paired(
     requires { IsRoom room }
     ensures stands { (first second : Meaning) → IsValue room first left → IsValue room second right → IfOk result (IsValue room (paired pairing first second)) }
     ensures bounded { IsBounded left → IsBounded right → IfOk result IsBounded }
+    ensures kinds { (tags : List tag_type) → HasValueKinds tags left → HasValueKinds tags right → IfOk result (HasValueKinds tags) }
 {
     match pairing {
         Pairing::Sequence => left.followed_by(alloc, room, right),
@@ -176,7 +179,9 @@ impl Operands {
     ghost use Rattle.lx_exprs.specs.Checks.{StopsAt};
     ghost use Rattle.lx_exprs.specs.Defined.{Definition};
     ghost use Rattle.lx_exprs.specs.Reading as reading;
-    ghost use Rattle.lx_exprs.specs.Reading.{AreBounded, AreOperands, IsStepTaken, Needs, StepChecks, closed, depth_behind, in_place, opened, operands_behind, paired, with_both};
+    ghost use Rattle.lx_exprs.specs.Operands.{HasOperandKinds};
+    ghost use Rattle.lx_exprs.specs.Reading.{AreBounded, AreOperands, HasOwnKinds, HaveOperandKinds, IsStepTaken, Needs, StepChecks, closed, depth_behind, in_place, opened, operands_behind, paired, with_both};
+    ghost use Rattle.lx_regex.specs.declared.rules.Tag.{Tag as tag_type};
     ghost use Rattle.lx_exprs.specs.Seen.{scope_view};
     ghost use Rattle.lx_forms.specs.Seen.{lexeme_view, lexemes_view};
     ghost use Rattle.lx_exprs.specs.FitDefinitions.{ScopeFits};
@@ -202,6 +207,7 @@ impl Operands {
     fn behind(alloc: Global, seen: SeenTags, groups: u64) -> Operands
         ensures stands { (room : Room) → AreOperands room (operands_behind (record { tags = seen; groups = groups })) result }
         ensures bounded { AreBounded result.values.items }
+        ensures kinds { (tags : List tag_type) → HaveOperandKinds tags result.values.items }
         ensures none { result.values.items ≡ [] }
     {
         Operands {
@@ -215,6 +221,8 @@ impl Operands {
     /// Appends an operand.
     fn push(&mut self, operand: Operand) -> Result<(), Memory>
         ensures values { OnOk result (self.new.values.items ≡ self.old.values.items ++ operand ∷ []) }
+        ensures kinds { (tags : List tag_type) → HaveOperandKinds tags self.old.values.items → HasOperandKinds tags operand
+            → OnOk result (HaveOperandKinds tags self.new.values.items) }
         ensures seen { self.new.seen ≡ self.old.seen }
         ensures groups { self.new.groups ≡ self.old.groups }
         ensures open_groups { self.new.open_groups ≡ self.old.open_groups }
@@ -227,6 +235,8 @@ impl Operands {
     fn pop(&mut self) -> Operand
         requires { 0 < length self.old.values.items }
         ensures values { self.old.values.items ≡ self.new.values.items ++ result ∷ [] }
+        ensures kinds { (tags : List tag_type) → HaveOperandKinds tags self.old.values.items
+            → HaveOperandKinds tags self.new.values.items × HasOperandKinds tags result }
         ensures seen { self.new.seen ≡ self.old.seen }
         ensures groups { self.new.groups ≡ self.old.groups }
         ensures open_groups { self.new.open_groups ≡ self.old.open_groups }
@@ -252,6 +262,7 @@ impl Operands {
             (λ _. IsStepTaken reader.entry.options.now definitions reader.entry.room operands (reads is_operand (lexeme_view lexeme.now)) self.new)
             (StopsAt (StepChecks reader.entry.options.now definitions operands (reads is_operand (lexeme_view lexeme.now)))) }
         ensures bounded { AreBounded self.old.values.items → OnOk result (AreBounded self.new.values.items) }
+        ensures kinds { HasOwnKinds self.old → OnOk result (HasOwnKinds self.new) }
         ensures depth { OnOk result (length self.new.values.items ≡ suc (length self.old.values.items)) }
     {
         let value = read_leaf(
@@ -271,6 +282,7 @@ impl Operands {
     fn open(&mut self, is_group: bool) -> Result<(), Memory>
         ensures stands { (room : Room) (operands : reading.Operands) → AreOperands room operands self.old → OnOk result (AreOperands room (opened is_group operands) self.new) }
         ensures values { self.new.values ≡ self.old.values }
+        ensures kinds { HasOwnKinds self.old → OnOk result (HasOwnKinds self.new) }
     {
         if is_group {
             self.open_groups.push(self.groups)?;
@@ -285,6 +297,7 @@ impl Operands {
         requires depth { 1 ≤ length self.old.values.items }
         ensures stands { (operands : reading.Operands) → AreOperands room operands self.old → OnOk result (AreOperands room (closed false operands) self.new) }
         ensures bounded { AreBounded self.old.values.items → OnOk result (AreBounded self.new.values.items) }
+        ensures kinds { HasOwnKinds self.old → OnOk result (HasOwnKinds self.new) }
         ensures depth { OnOk result (length self.new.values.items ≡ length self.old.values.items) }
     {
         let inner = self.pop().settled(alloc, room)?;
@@ -299,6 +312,7 @@ impl Operands {
         requires depth { 1 ≤ length self.old.values.items }
         ensures stands { (operands : reading.Operands) → AreOperands room operands self.old → OnOk result (AreOperands room (closed true operands) self.new) }
         ensures bounded { AreBounded self.old.values.items → OnOk result (AreBounded self.new.values.items) }
+        ensures kinds { HasOwnKinds self.old → OnOk result (HasOwnKinds self.new) }
         ensures depth { OnOk result (length self.new.values.items ≡ length self.old.values.items) }
     {
         let Some(before) = self.open_groups.pop() else {
@@ -317,6 +331,7 @@ impl Operands {
         requires depth { 1 ≤ length self.old.values.items }
         ensures stands { (operands : reading.Operands) → AreOperands room operands self.old → OnOk result (AreOperands room (closed is_group operands) self.new) }
         ensures bounded { AreBounded self.old.values.items → OnOk result (AreBounded self.new.values.items) }
+        ensures kinds { HasOwnKinds self.old → OnOk result (HasOwnKinds self.new) }
         ensures depth { OnOk result (length self.new.values.items ≡ length self.old.values.items) }
     {
         if is_group {
@@ -334,6 +349,7 @@ impl Operands {
             (λ _. IsStepTaken options definitions room operands (repeats (lexeme_view sign.now)) self.new)
             (StopsAt (StepChecks options definitions operands (repeats (lexeme_view sign.now)))) }
         ensures bounded { AreBounded self.old.values.items → OnOk result (AreBounded self.new.values.items) }
+        ensures kinds { HasOwnKinds self.old → OnOk result (HasOwnKinds self.new) }
         ensures depth { OnOk result (length self.new.values.items ≡ length self.old.values.items) }
     {
         let bounds = match checked_bounds(sign) {
@@ -353,6 +369,7 @@ impl Operands {
         ensures stands { (operands : reading.Operands) → AreOperands room operands self.old
             → OnOk result (AreOperands room (in_place operands (with_both (paired pairing) operands.meanings)) self.new) }
         ensures bounded { AreBounded self.old.values.items → OnOk result (AreBounded self.new.values.items) }
+        ensures kinds { HasOwnKinds self.old → OnOk result (HasOwnKinds self.new) }
         ensures depth { OnOk result (suc (length self.new.values.items) ≡ length self.old.values.items) }
     {
         let last = self.pop();
@@ -379,6 +396,7 @@ impl Operands {
             (λ _. IsStepTaken reader.entry.options.now definitions reader.entry.room operands (subtracts is_operand (lexeme_view sign.now)) self.new)
             (StopsAt (StepChecks reader.entry.options.now definitions operands (subtracts is_operand (lexeme_view sign.now)))) }
         ensures bounded { AreBounded self.old.values.items → OnOk result (AreBounded self.new.values.items) }
+        ensures kinds { HasOwnKinds self.old → OnOk result (HasOwnKinds self.new) }
         ensures depth { OnOk result (suc (length self.new.values.items) ≡ length self.old.values.items) }
     {
         let last = self.pop();
@@ -405,6 +423,7 @@ impl Operands {
             (λ _. IsStepTaken reader.entry.options.now definitions reader.entry.room operands (step_view (lexemes_view lexemes.entry) step) self.new)
             (StopsAt (StepChecks reader.entry.options.now definitions operands (step_view (lexemes_view lexemes.entry) step))) }
         ensures bounded { AreBounded self.old.values.items → OnOk result (AreBounded self.new.values.items) }
+        ensures kinds { HasOwnKinds self.old → OnOk result (HasOwnKinds self.new) }
         ensures depth { OnOk result (length self.new.values.items ≡ depth_behind (step_view (lexemes_view lexemes.entry) step) (length self.old.values.items)) }
     {
         let lexeme = lexemes.at(step.place as usize);
@@ -437,6 +456,7 @@ fn take_steps(
         (AreTaken reader.entry.options.now definitions reader.entry.room (operands_behind (record { tags = seen; groups = groups })) (map (step_view (lexemes_view lexemes.entry)) steps.now))
         (StopsReading reader.entry.options.now definitions (operands_behind (record { tags = seen; groups = groups })) (map (step_view (lexemes_view lexemes.entry)) steps.now)) }
     ensures bounded { IfOk result (λ operands. AreBounded operands.values.items) }
+    ensures kinds { IfOk result HasOwnKinds }
     ensures one { IfOk result (λ operands. length operands.values.items ≡ 1) }
 {
     let mut operands = Operands::behind(alloc, seen, groups);
@@ -462,6 +482,7 @@ pub fn read_behind(
     requires part { IsPart (sorts_at (lexemes_view lexemes)) alt from until }
     requires few { until < 2 ^ 32 }
     ensures bounded { IfOk result (λ reading. IsBounded reading.value) }
+    ensures kinds { IfOk result (λ reading. HasValueKinds reading.tags reading.value) }
     ensures read { let definitions = scope_view reader.entry.scope in
         MatchResult result (IsReadBehind reader.entry.options.now (lexemes_view lexemes.entry) definitions reader.entry.room (record { tags = seen; groups = groups }) from until)
         (StopsAt (ChecksBehind reader.entry.options.now (lexemes_view lexemes.entry) definitions seen from until)) }
@@ -486,6 +507,7 @@ pub fn read_expression(
     requires part { IsPart (sorts_at (lexemes_view lexemes)) alt from until }
     requires few { until < 2 ^ 32 }
     ensures bounded { IfOk result (λ reading. IsBounded reading.value) }
+    ensures kinds { IfOk result (λ reading. HasValueKinds reading.tags reading.value) }
     ensures read { let definitions = scope_view reader.entry.scope in
         MatchResult result (IsRead reader.entry.options.now (lexemes_view lexemes.entry) definitions reader.entry.room from until)
         (StopsAt (ExpressionChecks reader.entry.options.now (lexemes_view lexemes.entry) definitions from until)) }

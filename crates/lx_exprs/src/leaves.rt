@@ -6,6 +6,7 @@ ghost use Rattle.lx_base.specs.declared.places.Pos.{Pos};
 ghost use Rattle.lx_base.specs.declared.settings.Options.{Options};
 ghost use Rattle.lx_class.specs.Ranges.{InRanges, IsCanonical};
 ghost use Rattle.lx_regex.specs.Expr.{members_of, size_of, term_of};
+ghost use Rattle.lx_regex.specs.Kinds.{kinds_of};
 ghost use Rattle.lx_regex.specs.Term.{cat};
 ghost use Rattle.lx_regex.specs.declared.rules.Tag.{Tag as tag_type};
 ghost use Rattle.lx_exprs.specs.Checks.{IsFilled, PointsAre, StopsAt};
@@ -18,7 +19,7 @@ ghost use Rattle.lx_exprs.specs.Reading.{IsLeafRead, IsLeafResult};
 ghost use Rattle.lx_exprs.specs.Seen.{AreCodePoints, IsStop, definition_view, scope_view, points_of};
 ghost use Rattle.lx_forms.specs.Seen.{lexeme_view};
 ghost use Rattle.lx_exprs.specs.FitDefinitions.{ScopeFits, IsFitDefinition};
-ghost use Rattle.lx_exprs.specs.Values.{AreTagsBelow, IsContent, IsBounded, IsRoom, IsValue, content_size, is_past};
+ghost use Rattle.lx_exprs.specs.Values.{AreTagsBelow, HasKinds, HasValueKinds, IsContent, IsBounded, IsRoom, IsValue, content_size, is_past};
 ghost use Rattle.lx_token.specs.declared.kinds.TokenKind.TheVariants as kind;
 
 use crate::copies::copy;
@@ -54,6 +55,7 @@ fn sequence(
     requires { AreCodePoints characters.now }
     ensures term { IfOk result (λ expr. term_of 0 expr ≡ cat (members_of (map set_term (map (character_set policy is_caseless) (points_of characters.now))))) }
     ensures size { IfOk result (λ expr. size_of expr ≡ length characters.now) }
+    ensures kinds { IfOk result (λ expr. kinds_of expr ≡ []) }
 {
     let mut members = Vec::new(alloc);
     for character in characters {
@@ -75,6 +77,7 @@ fn string_content(
         → IfOk result (IsContent is_built (string_meaning count (map (character_set policy is_caseless) (points_of characters.now)))) }
     ensures size { IfOk result (λ content. content_size content ≤ max 1 (length characters.now)) }
     ensures tags { (bound : ℕ) → IfOk result (AreTagsBelow bound) }
+    ensures kinds { (tags : List tag_type) → IfOk result (HasKinds tags) }
 {
     match characters {
         [] => Ok(Content::One(Expr::Empty)),
@@ -95,6 +98,7 @@ fn class_content(policy: EmptyPolicy, is_operand: bool, set: ClassSet) -> Conten
     ensures stands { (is_built : Bool) (nesting groups count : ℕ) (tags : List tag_type) → IsContent is_built (class_meaning is_operand policy nesting tags groups count set) result }
     ensures size { content_size result ≡ 1 }
     ensures tags { (bound : ℕ) → AreTagsBelow bound result }
+    ensures kinds { (tags : List tag_type) → HasKinds tags result }
 {
     if !is_operand && policy == EmptyPolicy::MatchEmpty && set.ranges().is_empty() {
         return Content::One(Expr::Empty);
@@ -119,6 +123,7 @@ fn kept_content(alloc: Global, definition: &Kept, by: u64, groups: u64) -> Resul
     ensures size { IfOk result (λ content. content_size content ≤ definition.now.size) }
     ensures tags { (before : Before) → by ≡ kept (length before.tags) → groups ≡ before.groups
         → IfOk result (AreTagsBelow (min (2 ^ 40) (count_of (and_more before definition.now.tags definition.now.groups)))) }
+    ensures kinds { (before : List tag_type) → by ≡ kept (length before) → IfOk result (HasKinds (before ++ definition.now.tags)) }
 {
     let Some(expr) = &definition.expr else {
         return Ok(Content::One(Expr::Empty));
@@ -158,6 +163,7 @@ fn read_string(
         × IsValue reader.entry.room (meaning_of_string reader.entry.options.now definitions is_caseless before (lexeme_view lexeme.now)) value)
         (StopsAt (PointsAre reader.entry.options.now definitions (lexeme_view lexeme.now) (singles (points_in (lexeme_view lexeme.now))))) }
     ensures bounded { IfOk result IsBounded }
+    ensures kinds { (tags : List tag_type) → IfOk result (HasValueKinds tags) }
 {
     let options = reader.options;
     let characters = characters_of(alloc, lexeme.text)?;
@@ -198,6 +204,7 @@ pub fn read_set(
         × IsValue reader.entry.room (class_meaning is_operand reader.entry.options.now.empty depth tags groups all set) value)
         (StopsAt (IsFilled reader.entry.options.now definitions reader.entry.options.now.empty is_operand at (InRanges set))) }
     ensures bounded { IfOk result IsBounded }
+    ensures kinds { (tags : List tag_type) → IfOk result (HasValueKinds tags) }
 {
     let policy = reader.options.empty;
     if is_refused(policy, is_operand, &set) {
@@ -220,6 +227,7 @@ fn read_class(
     ensures read { (before : Before) → count ≡ kept (count_of before)
         → IsLeafResult reader.entry.options.now (scope_view reader.entry.scope) reader.entry.room is_operand before (lexeme_view lexeme.now) before.tags result }
     ensures bounded { IfOk result IsBounded }
+    ensures kinds { (tags : List tag_type) → IfOk result (HasValueKinds tags) }
 {
     let options = reader.options;
     let class = written_class(alloc, lexeme.text)?;
@@ -243,6 +251,7 @@ fn read_line(
         (before : Before) (lexeme : lexical.Lexeme) → count ≡ kept (count_of before) → lexeme.kind ≡ kind.Signs
         → IfOk result (IsLeafRead reader.entry.options.now definitions reader.entry.room is_operand before lexeme before.tags) }
     ensures bounded { IfOk result IsBounded }
+    ensures kinds { (tags : List tag_type) → IfOk result (HasValueKinds tags) }
 {
     let set = line_set(alloc, reader.options)?;
     let content = class_content(reader.options.empty, is_operand, set);
@@ -263,6 +272,7 @@ fn read_name(
     ensures read { (is_operand : Bool)
         → IsLeafResult reader.entry.options.now (scope_view reader.entry.scope) reader.entry.room is_operand (record { tags = seen.old; groups = groups }) (lexeme_view lexeme.now) seen.new result }
     ensures bounded { IfOk result IsBounded }
+    ensures kinds { IfOk result (HasValueKinds seen.new) }
 {
     let Some(kept) = reader.scope.get(lexeme.text) else {
         return Err(unknown(alloc, lexeme));
@@ -293,6 +303,8 @@ fn tag_content(number: u64, many: bool) -> Content
         → IsContent is_built (tag_meaning before named) result }
     ensures size { content_size result ≤ 1 }
     ensures tags { (before : Before) → number ≡ kept (length before.tags) → AreTagsBelow (kept (suc (count_of before))) result }
+    ensures kinds { (before : List tag_type) (named : tag_type) → number ≡ kept (length before) → named.many ≡ many
+        → HasKinds (before ++ named ∷ []) result }
 {
     if number >= TAG_LIMIT {
         return Content::Past(None, false);
@@ -318,6 +330,7 @@ fn read_tag(
     ensures read { (is_operand : Bool)
         → IsLeafResult reader.entry.options.now (scope_view reader.entry.scope) reader.entry.room is_operand (record { tags = seen.old; groups = groups }) (lexeme_view lexeme.now) seen.new result }
     ensures bounded { IfOk result IsBounded }
+    ensures kinds { IfOk result (HasValueKinds seen.new) }
 {
     if !reader.options.tags {
         return Err(Stop::Fault(Fault::TagsOff { at: lexeme.at }));
@@ -350,6 +363,7 @@ pub fn read_leaf(
     requires fit { ScopeFits reader.scope }
     ensures read { IsLeafResult reader.entry.options.now (scope_view reader.entry.scope) reader.entry.room is_operand (record { tags = seen.old; groups = groups }) (lexeme_view lexeme.now) seen.new result }
     ensures bounded { IfOk result IsBounded }
+    ensures kinds { IfOk result (HasValueKinds seen.new) }
 {
     let count = count_of(seen.len(), groups);
     match lexeme.kind {

@@ -41,11 +41,12 @@ impl Drop for Operand {
 }
 
 impl Holed {
-    ghost use Rattle.std.specs.Prelude.{◌≡◌, None, IfNone, IfOk, IfSome};
+    ghost use Rattle.std.specs.Prelude.{◌≡◌, List, None, IfNone, IfOk, IfSome};
     ghost use Rattle.lx_class.specs.Ranges.{IsCanonical, IsDifference};
+    ghost use Rattle.lx_regex.specs.declared.rules.Tag.{Tag as tag_type};
     ghost use Rattle.lx_exprs.specs.Defined.{Meaning, meant_class};
     ghost use Rattle.lx_exprs.specs.Operands.{IsHoled, IsHoledBy, IsOneClass};
-    ghost use Rattle.lx_exprs.specs.Values.{IsBounded, IsRoom, IsValue};
+    ghost use Rattle.lx_exprs.specs.Values.{HasValueKinds, IsBounded, IsRoom, IsValue};
 
     /// The set of the points that are left.
     pub fn into_set(self, alloc: Global) -> Result<ClassSet, Memory>
@@ -84,6 +85,7 @@ impl Holed {
         requires { IsRoom room }
         ensures stands { (meaning : Meaning) → IsHoled meaning self → IsOneClass meaning → IfOk result (IsValue room meaning) }
         ensures bounded { IfOk result IsBounded }
+        ensures kinds { (tags : List tag_type) → IfOk result (HasValueKinds tags) }
     {
         let (nesting, groups, tags) = (self.nesting, self.groups, self.tags);
         let set = self.into_set(alloc)?;
@@ -93,10 +95,11 @@ impl Holed {
 }
 
 impl Operand {
-    ghost use Rattle.std.specs.Prelude.{◌≡◌, None, IfNone, IfOk, IfSome};
+    ghost use Rattle.std.specs.Prelude.{◌≡◌, List, None, IfNone, IfOk, IfSome};
+    ghost use Rattle.lx_regex.specs.declared.rules.Tag.{Tag as tag_type};
     ghost use Rattle.lx_exprs.specs.Defined.{Meaning, meant_class};
-    ghost use Rattle.lx_exprs.specs.Operands.{IsBoundedOperand, IsHoled, IsOperand};
-    ghost use Rattle.lx_exprs.specs.Values.{IsBounded, IsRoom, IsValue};
+    ghost use Rattle.lx_exprs.specs.Operands.{HasOperandKinds, IsBoundedOperand, IsHoled, IsOperand};
+    ghost use Rattle.lx_exprs.specs.Values.{HasValueKinds, IsBounded, IsRoom, IsValue};
 
     /// The class that it is, if it is one.
     pub fn into_holed(self, alloc: Global) -> Result<Option<Holed>, Memory>
@@ -127,6 +130,7 @@ impl Operand {
         requires { IsRoom room }
         ensures stands { (meaning : Meaning) → IsOperand room meaning self → IfOk result (IsValue room meaning) }
         ensures bounded { IsBoundedOperand self → IfOk result IsBounded }
+        ensures kinds { (tags : List tag_type) → HasOperandKinds tags self → IfOk result (HasValueKinds tags) }
     {
         match self {
             Operand::Whole(value) => Ok(value),

@@ -149,14 +149,16 @@ fn joined(front: Vec<Expr>, back: Vec<Expr>) -> Result<Vec<Expr>, Memory>
 }
 
 impl Content {
-    ghost use Rattle.std.specs.Prelude.{◌≡◌, ◌<◌, ◌≤◌, ◌+◌, ◌*◌, ℕ, suc, Bool, IfOk, IfSome, IfNone, false, not, true, map, sum};
+    ghost use Rattle.std.specs.Prelude.{◌≡◌, ◌<◌, ◌≤◌, ◌+◌, ◌*◌, ℕ, suc, Bool, List, IfOk, IfSome, IfNone, false, not, true, map, sum};
     ghost use Rattle.std.specs.Option.{option_map};
     ghost use Rattle.lx_base.specs.declared.limits.TheConstants.{TAG_LIMIT};
     ghost use Rattle.lx_regex.specs.Expr.{members_of, size_of, term_of, times};
     ghost use Rattle.lx_exprs.specs.Defined.{IsTermKept, Meaning, kept, meant_class, term_of_meaning};
-    ghost use Rattle.lx_exprs.specs.FitDefinitions.{FitsKept};
+    ghost use Rattle.lx_exprs.specs.FitDefinitions.{FitsKept, HasKeptKinds};
     ghost use Rattle.lx_exprs.specs.Meanings.{alternated, enclosed, followed, grouped, in_choice, in_row, repeated_by};
-    ghost use Rattle.lx_exprs.specs.Values.{AreTagsBelow, HasPoints, HasTagsBelow, HaveTagsBelow, IsContent, content_size, is_choice_content, is_past};
+    ghost use Rattle.lx_exprs.specs.Values.{AreTagsBelow, HasKinds, HasPoints, HasTagsBelow, HaveTagsBelow, IsContent, content_kinds, content_size, is_choice_content, is_past};
+    ghost use Rattle.lx_regex.specs.Kinds.{joined, kinds_of};
+    ghost use Rattle.lx_regex.specs.declared.rules.Tag.{Tag as tag_type};
 
     /// Whether it is built.
     fn is_built(&self) -> bool
@@ -196,6 +198,7 @@ impl Content {
         ensures kept { IfSome result (λ expr. is_past self ≡ false) }
         ensures size { IfSome result (λ expr. size_of expr ≡ content_size self) }
         ensures tags { (bound : ℕ) → AreTagsBelow bound self → IfSome result (λ expr. HasTagsBelow 1 bound (term_of 0 expr)) }
+        ensures kinds { IfSome result (λ expr. kinds_of expr ≡ content_kinds self) }
     {
         match self {
             Content::One(expr) => Some(expr),
@@ -210,6 +213,7 @@ impl Content {
         ensures term { (is_built : Bool) (meaning : Meaning) → IsContent is_built meaning self → is_past self ≡ not is_built
             → IfOk result (λ found. IsTermKept is_built meaning (option_map (term_of 0) found)) }
         ensures kept { (size tags : ℕ) → 1 ≤ size → content_size self ≤ size → AreTagsBelow tags self → IfOk result (λ found. FitsKept 1 found size tags) }
+        ensures kinds { (tags : List tag_type) → HasKinds tags self → IfOk result (HasKeptKinds tags) }
     {
         match self {
             Content::Past(class, _) => match class {
@@ -228,6 +232,7 @@ impl Content {
         ensures size { IfOk result (λ row. IfSome row (λ members. sum (map size_of members.items) ≤ content_size self)) }
         ensures tags { (bound : ℕ) → AreTagsBelow bound self
             → IfOk result (λ row. IfSome row (λ members. HaveTagsBelow 1 bound (members_of (map (term_of 0) members.items)))) }
+        ensures kinds { IfOk result (λ row. IfSome row (λ members. joined (map kinds_of members.items) ≡ content_kinds self)) }
     {
         match self {
             Content::Row(members) => Ok(Some(members)),
@@ -247,6 +252,7 @@ impl Content {
         ensures choice { is_choice_content self ≡ true → IfOk result (λ choice. IfSome choice (λ members. sum (map size_of members.items) + 1 ≤ content_size self)) }
         ensures tags { (bound : ℕ) → AreTagsBelow bound self
             → IfOk result (λ choice. IfSome choice (λ members. HaveTagsBelow 1 bound (members_of (map (term_of 0) members.items)))) }
+        ensures kinds { IfOk result (λ choice. IfSome choice (λ members. joined (map kinds_of members.items) ≡ content_kinds self)) }
     {
         match self {
             Content::Choice(members) => Ok(Some(members)),
@@ -265,6 +271,7 @@ impl Content {
         ensures size { IfOk result (λ both. content_size both ≤ content_size self + 1 + content_size right) }
         ensures choice { is_choice_content self ≡ true → IfOk result (λ both. content_size both ≤ content_size self + content_size right) }
         ensures tags { (bound : ℕ) → AreTagsBelow bound self → AreTagsBelow bound right → IfOk result (AreTagsBelow bound) }
+        ensures kinds { (tags : List tag_type) → HasKinds tags self → HasKinds tags right → IfOk result (HasKinds tags) }
     {
         if !self.is_built() || !right.is_built() {
             let class = self.into_class(alloc)?;
@@ -291,6 +298,7 @@ impl Content {
             → IfOk result (IsContent is_built (followed first second)) }
         ensures size { IfOk result (λ both. content_size both ≤ content_size self + content_size back) }
         ensures tags { (bound : ℕ) → AreTagsBelow bound self → AreTagsBelow bound back → IfOk result (AreTagsBelow bound) }
+        ensures kinds { (tags : List tag_type) → HasKinds tags self → HasKinds tags back → IfOk result (HasKinds tags) }
     {
         if !self.is_built() || !back.is_built() {
             return Ok(Content::Past(None, false));
@@ -310,6 +318,7 @@ impl Content {
             → (is_built ≡ false → is_built_around ≡ false) → IfOk result (IsContent is_built_around (repeated_by bounds meaning)) }
         ensures size { IfOk result (λ around. content_size around ≤ content_size self * times bounds.min bounds.max + 1) }
         ensures tags { (bound : ℕ) → AreTagsBelow bound self → IfOk result (AreTagsBelow bound) }
+        ensures kinds { (tags : List tag_type) → HasKinds tags self → IfOk result (HasKinds tags) }
     {
         let Some(body) = self.into_expr() else {
             return Ok(Content::Past(None, false));
@@ -328,6 +337,7 @@ impl Content {
             → (is_built ≡ false → is_built_around ≡ false) → IsContent is_built_around (enclosed meaning) result }
         ensures size { content_size result ≤ content_size self }
         ensures tags { (bound : ℕ) → AreTagsBelow bound self → AreTagsBelow bound result }
+        ensures kinds { (tags : List tag_type) → HasKinds tags self → HasKinds tags result }
     {
         match self {
             Content::One(expr) => Content::One(expr),
@@ -344,6 +354,7 @@ impl Content {
             → IfOk result (IsContent is_built_around (grouped (kept (suc before)) meaning)) }
         ensures size { IfOk result (λ around. content_size around ≤ content_size self + 2) }
         ensures tags { (bound : ℕ) → AreTagsBelow bound self → (before < TAG_LIMIT → 2 * suc before ≤ bound) → IfOk result (AreTagsBelow bound) }
+        ensures kinds { (tags : List tag_type) → HasKinds tags self → IfOk result (HasKinds tags) }
     {
         if before >= TAG_LIMIT {
             return Ok(Content::Past(None, false));
@@ -357,13 +368,14 @@ impl Content {
 }
 
 impl Value {
-    ghost use Rattle.std.specs.Prelude.{◌≡◌, ◌≤◌, suc, IfNone, IfOk, IfSome, false};
+    ghost use Rattle.std.specs.Prelude.{◌≡◌, ◌≤◌, suc, List, IfNone, IfOk, IfSome, false};
     ghost use Rattle.std.specs.Option.{option_map};
     ghost use Rattle.lx_regex.specs.Expr.{size_of, term_of};
     ghost use Rattle.lx_exprs.specs.Defined.{HasClass, IsTermKept, Meaning, is_built, kept, meant_class, term_of_meaning, whole_room};
     ghost use Rattle.lx_exprs.specs.Meanings.{alternated, enclosed, followed, grouped, repeated_by};
-    ghost use Rattle.lx_exprs.specs.Values.{AreTagsBelow, HasPoints, IsContent, IsCounted, IsBounded, IsRoom, IsValue, content_size};
-    ghost use Rattle.lx_exprs.specs.FitDefinitions.{FitsKept};
+    ghost use Rattle.lx_exprs.specs.Values.{AreTagsBelow, HasKinds, HasPoints, HasValueKinds, IsContent, IsCounted, IsBounded, IsRoom, IsValue, content_size};
+    ghost use Rattle.lx_exprs.specs.FitDefinitions.{FitsKept, HasKeptKinds};
+    ghost use Rattle.lx_regex.specs.declared.rules.Tag.{Tag as tag_type};
 
     /// What is read, where these are its numbers: past a limit only its class is kept.
     pub fn limited(
@@ -378,6 +390,7 @@ impl Value {
         requires { IsRoom room }
         ensures stands { (meaning : Meaning) → IsCounted meaning size nesting groups tags → IsContent (is_built room meaning) meaning content → IfOk result (IsValue room meaning) }
         ensures bounded { 1 ≤ size → (size ≤ SIZE_LIMIT → content_size content ≤ size) → AreTagsBelow tags content → IfOk result IsBounded }
+        ensures kinds { (all : List tag_type) → HasKinds all content → IfOk result (HasValueKinds all) }
         ensures groups { IfOk result (λ value. value.groups ≡ groups) }
     {
         if room.fits(size, nesting, tags) {
@@ -405,6 +418,7 @@ impl Value {
         requires { IsRoom room }
         ensures stands { (meaning : Meaning) → IsValue room meaning self → IfOk result (IsValue room (enclosed meaning)) }
         ensures bounded { IsBounded self → IfOk result IsBounded }
+        ensures kinds { (tags : List tag_type) → HasValueKinds tags self → IfOk result (HasValueKinds tags) }
     {
         let (size, groups, tags) = (self.size, self.groups, self.tags);
         let nesting = sum(self.nesting, 1);
@@ -417,6 +431,7 @@ impl Value {
         requires { IsRoom room }
         ensures stands { (meaning : Meaning) → IsValue room meaning self → IfOk result (IsValue room (grouped (kept (suc before)) meaning)) }
         ensures bounded { IsBounded self → IfOk result IsBounded }
+        ensures kinds { (tags : List tag_type) → HasValueKinds tags self → IfOk result (HasValueKinds tags) }
     {
         let size = sum(self.size, 2);
         let nesting = sum(self.nesting, 1);
@@ -434,6 +449,7 @@ impl Value {
         requires most { IfSome bounds.max (λ most. most ≤ BOUND_LIMIT) }
         ensures stands { (meaning : Meaning) → IsValue room meaning self → IfOk result (IsValue room (repeated_by bounds meaning)) }
         ensures bounded { IsBounded self → IfOk result IsBounded }
+        ensures kinds { (tags : List tag_type) → HasValueKinds tags self → IfOk result (HasValueKinds tags) }
     {
         let size = sum(MOST_KEPT.min(self.size.saturating_mul(times(bounds))), 1);
         let nesting = sum(self.nesting, 1);
@@ -447,6 +463,7 @@ impl Value {
         requires { IsRoom room }
         ensures stands { (first second : Meaning) → IsValue room first self → IsValue room second back → IfOk result (IsValue room (followed first second)) }
         ensures bounded { IsBounded self → IsBounded back → IfOk result IsBounded }
+        ensures kinds { (tags : List tag_type) → HasValueKinds tags self → HasValueKinds tags back → IfOk result (HasValueKinds tags) }
     {
         let size = sum(self.size, back.size);
         let nesting = self.nesting.max(back.nesting);
@@ -461,6 +478,7 @@ impl Value {
         requires { IsRoom room }
         ensures stands { (first second : Meaning) → IsValue room first self → IsValue room second right → IfOk result (IsValue room (alternated first second)) }
         ensures bounded { IsBounded self → IsBounded right → IfOk result IsBounded }
+        ensures kinds { (tags : List tag_type) → HasValueKinds tags self → HasValueKinds tags right → IfOk result (HasValueKinds tags) }
     {
         let more = if self.content.is_choice() { 0 } else { 1 };
         let size = sum(sum(self.size, more), right.size);
@@ -493,6 +511,7 @@ impl Value {
         ensures term { (meaning : Meaning) → IsValue whole_room meaning self
             → IfOk result (λ found. IsTermKept (is_built whole_room meaning) meaning (option_map (term_of 0) found)) }
         ensures kept { IsBounded self → IfOk result (λ found. FitsKept 1 found self.size self.tags) }
+        ensures kinds { (tags : List tag_type) → HasValueKinds tags self → IfOk result (HasKeptKinds tags) }
     {
         self.content.into_kept(alloc)
     }
@@ -503,6 +522,7 @@ impl Value {
             → IfSome result (λ expr. term_of 0 expr ≡ term_of_meaning meaning) }
         ensures past { (room : Room) (meaning : Meaning) → IsValue room meaning self → IfNone result (is_built room meaning ≡ false) }
         ensures kept { IsBounded self → FitsKept 1 result self.size self.tags }
+        ensures kinds { (tags : List tag_type) → HasValueKinds tags self → HasKeptKinds tags result }
     {
         self.content.into_expr()
     }

@@ -5,6 +5,7 @@ pub mod Dictionary
 pub mod Examples
 pub mod Expr
 pub mod Kernel
+pub mod Kinds
 pub mod Least
 pub mod Limits
 pub mod Match

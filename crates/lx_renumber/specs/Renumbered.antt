@@ -1,9 +1,15 @@
 -- Rules and automata with greater numbers of rules.
-use Rattle.std.specs.Prelude.{ℕ, ◌+◌, ◌<◌, ◌^◌, All, IfSome, map, option_map, Option, Some, None}
+use Rattle.std.specs.Prelude.{ℕ, ◌+◌, ◌<◌, ◌^◌, All, Bool, IfSome, List, map, option_map, Option, Some, None}
 use Rattle.lx_auto.specs.declared.automaton.Accept.{Accept}
 use Rattle.lx_auto.specs.declared.automaton.Auto.{Auto}
 use Rattle.lx_auto.specs.declared.automaton.State.{State}
+use Rattle.lx_regex.specs.Kinds.{kinds_of}
 use Rattle.lx_regex.specs.Pattern.{Pattern}
+use Rattle.lx_regex.specs.declared.rules.Rule.{Rule}
+
+-- the tags in the expressions of rules, each with whether it is an m-tag
+abbrev pub kinds_in : List Rule → List (List (ℕ × Bool))
+kinds_in rules = map (λ (rule : Rule). kinds_of rule.expr) rules
 
 -- each number of a rule is greater by so much
 module _ (by : ℕ) where

@@ -1,13 +1,15 @@
 //! Whether expressions are the same.
 ghost use Rattle.std.specs.Prelude.{◌≡◌, ℕ, IsTrue, map};
 ghost use Rattle.lx_regex.specs.Expr.{term_of};
+ghost use Rattle.lx_regex.specs.Kinds.{kinds_of};
 
 use lx_regex::Expr;
 
 /// Whether expressions are the same ones in the same order.
 #[cycle(is_same)]
 fn are_same(members: &[Expr], others: &[Expr]) -> bool
-    ensures { IsTrue result → (tags : ℕ) → map (term_of tags) others.now ≡ map (term_of tags) members.now }
+    ensures terms { IsTrue result → (tags : ℕ) → map (term_of tags) others.now ≡ map (term_of tags) members.now }
+    ensures kinds { IsTrue result → map kinds_of others.now ≡ map kinds_of members.now }
 {
     if members.len() != others.len() {
         return false;
@@ -23,7 +25,8 @@ fn are_same(members: &[Expr], others: &[Expr]) -> bool
 /// Whether an expression is the same as another one, form by form. It takes no memory.
 #[cycle(is_same)]
 pub(crate) fn is_same(expr: &Expr, other: &Expr) -> bool
-    ensures { IsTrue result → (tags : ℕ) → term_of tags other.now ≡ term_of tags expr.now }
+    ensures term { IsTrue result → (tags : ℕ) → term_of tags other.now ≡ term_of tags expr.now }
+    ensures kinds { IsTrue result → kinds_of other.now ≡ kinds_of expr.now }
 {
     match (expr, other) {
         (Expr::Empty, Expr::Empty) | (Expr::AnyUnit, Expr::AnyUnit) => true,

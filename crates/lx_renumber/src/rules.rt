@@ -3,10 +3,11 @@ ghost use Rattle.std.specs.Prelude.{◌≡◌, IfSome, IsTrue, map};
 ghost use Rattle.lx_auto.specs.Live.{AllInterfere, EachTargetIsRead};
 ghost use Rattle.lx_auto.specs.ToldApart.{AllAreToldApart};
 ghost use Rattle.lx_base.specs.declared.settings.Enc.{Enc};
+ghost use Rattle.lx_regex.specs.Kinds.{kinds_of};
 ghost use Rattle.lx_regex.specs.Order.{Policy};
 ghost use Rattle.lx_regex.specs.Pattern.{pattern_of, patterns_of, terms_of};
 ghost use Rattle.lx_regex.specs.declared.rules.Tag.{Tag as TagValue};
-ghost use Rattle.lx_renumber.specs.Renumbered.{renumbered, renumbered_pattern};
+ghost use Rattle.lx_renumber.specs.Renumbered.{kinds_in, renumbered, renumbered_pattern};
 ghost use Rattle.lx_tdfa.specs.Promise.{IsAutoUnder};
 
 use crate::expressions::is_same;
@@ -30,7 +31,8 @@ fn have_same_sorts(before: &[Tag], tags: &[Tag]) -> bool
 
 /// Whether a rule is another one, but for its number, which is greater by so much.
 fn is_renumbered(before: &Rule, rule: &Rule, by: u32) -> bool
-    ensures { IsTrue result → pattern_of rule.now ≡ renumbered_pattern by (pattern_of before.now) }
+    ensures pattern { IsTrue result → pattern_of rule.now ≡ renumbered_pattern by (pattern_of before.now) }
+    ensures kinds { IsTrue result → kinds_of rule.now.expr ≡ kinds_of before.now.expr }
 {
     if rule.kind != before.kind {
         return false;
@@ -65,6 +67,7 @@ fn first_difference(before: &[Rule], rules: &[Rule]) -> Option<u32> {
 /// clauses alone.
 pub fn difference(before: &[Rule], auto: &Auto, rules: &[Rule]) -> Option<u32>
     ensures patterns { IfSome result (λ by. patterns_of rules.now ≡ map (renumbered_pattern by) (patterns_of before.now)) }
+    ensures kinds { IfSome result (λ by. kinds_in rules.now ≡ kinds_in before.now) }
     ensures promised { (policy : Policy) (enc : Enc) → IsAutoUnder policy enc (patterns_of before.now) auto.now
         → IfSome result (λ by. IsAutoUnder policy enc (patterns_of rules.now) (renumbered by auto.now)) }
     ensures terms { IfSome result (λ by. terms_of (patterns_of rules.now) ≡ terms_of (patterns_of before.now)) }

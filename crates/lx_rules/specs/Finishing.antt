@@ -7,6 +7,7 @@ use Rattle.lx_base.specs.declared.faults.Fault.TheVariants.{NoRules, TooManyPart
 use Rattle.lx_base.specs.declared.limits.TheConstants.{NESTING_LIMIT, SIZE_LIMIT, TAG_LIMIT}
 use Rattle.lx_base.specs.declared.places.Pos.{Pos}
 use Rattle.lx_regex.specs.Expr.{size_of, term_of}
+use Rattle.lx_regex.specs.Kinds.{kinds_of}
 use Rattle.lx_regex.specs.declared.expr.Expr.{Expr}
 use Rattle.lx_regex.specs.declared.rules.Rule.{Rule}
 use Rattle.lx_exprs.specs.Checks.{Check, Finds, Then}
@@ -100,6 +101,7 @@ pub record IsCopyOf (held : KeptRule) (rule : Rule) : Type 0 where
   pub kept : held.expr ≡ Some expr
   pub term : term_of 0 rule.expr ≡ term_of 0 expr
   pub size : size_of rule.expr ≡ size_of expr
+  pub kinds : kinds_of rule.expr ≡ kinds_of expr
 
 -- the checks of a block as a whole, before those of its scanners
 abbrev pub WholeChecks : (custom : Bool) → (format : Format) → Pos → State → Check

@@ -23,7 +23,7 @@ use Rattle.lx_exprs.specs.FitDefinitions.{FitsKept}
 use Rattle.lx_exprs.specs.declared.values.Room.{Room}
 use Rattle.lx_rules.specs.Conditions.{nothing_runs, room_under}
 use Rattle.lx_rules.specs.Items.{RuleMeaning, State, Goes, expression, HeadChecks, head_sort, IsHead, ItemChecks, IsAfter, end_meaning}
-use Rattle.lx_rules.specs.Kept.{AreKept, IsExprKept}
+use Rattle.lx_rules.specs.Kept.{AreKept, HasExprKinds, IsExprKept}
 use Rattle.lx_rules.specs.Rules.{RuleOf}
 use Rattle.lx_rules.specs.Seen.{known_definitions, rules_view, settings_view}
 use Rattle.lx_rules.specs.FitScanners.{HasFitDefinitions, IsShort}
@@ -86,10 +86,17 @@ StopsHead options lexemes state conds head slash until stopped =
 abbrev pub IsBoundedExpr : RuleExpr → Type 0
 IsBoundedExpr read = FitsKept 0 read.expr read.size read.count
 
+-- and its tags are of their kinds
+abbrev pub HasReadKinds : RuleExpr → Type 0
+HasReadKinds read = HasExprKinds read.tags read.slash read.expr
+
+abbrev pub IsFitExpr : RuleExpr → Type 0
+IsFitExpr read = IsBoundedExpr read × HasReadKinds read
+
 abbrev pub IsBoundedHead : Head → Type 0
-IsBoundedHead (head.Default read) = IsBoundedExpr read
+IsBoundedHead (head.Default read) = IsFitExpr read
 IsBoundedHead head.End = Unit {0}
-IsBoundedHead (head.Plain read) = IsBoundedExpr read
+IsBoundedHead (head.Plain read) = IsFitExpr read
 
 -- so a rule with this head, number and place stands under its conditions: neither `*` nor `$` counts
 abbrev pub standing_in : Head → (number : ℕ) → Pos → Standing
@@ -117,7 +124,7 @@ pub record IsExprOf (read : RuleExpr) (held : KeptRule) : Type 0 where
 abbrev pub IsHeadKept : Head → KeptRule → Type 0
 IsHeadKept (head.Default read) held = (held.kind ≡ kind.Default) × IsExprOf read held
 IsHeadKept head.End held =
-    (held.kind ≡ kind.Eof) × ((read : RuleExpr) × IsRuleExpr true end_meaning None read × IsBoundedExpr read × IsExprOf read held)
+    (held.kind ≡ kind.Eof) × ((read : RuleExpr) × IsRuleExpr true end_meaning None read × IsFitExpr read × IsExprOf read held)
 IsHeadKept (head.Plain read) held = (held.kind ≡ kind.Plain) × IsExprOf read held
 
 -- a rule may be added whose conditions, head, target and action these are

@@ -4,7 +4,9 @@ use Rattle.std.specs.Option.{option_map}
 use Rattle.std.specs.List.{AllZip, list_any}
 use Rattle.lx_regex.specs.Expr.{term_of}
 use Rattle.lx_regex.specs.declared.expr.Expr.{Expr}
+use Rattle.lx_regex.specs.Kinds.{HasKind, HaveKinds, kinds_of}
 use Rattle.lx_regex.specs.declared.rules.Kind.{Kind}
+use Rattle.lx_regex.specs.declared.rules.Tag.{Tag}
 use Rattle.lx_exprs.specs.Checks.{is_among}
 use Rattle.lx_exprs.specs.Defined.{Meaning, fits, kept, term_of_meaning, whole_room}
 use Rattle.lx_exprs.specs.FitDefinitions.{FitsKept}
@@ -45,6 +47,10 @@ abbrev pub IsExprKept : (stands : Bool) → Meaning → Option Expr → Type 0
 IsExprKept stands meaning None = stands ≡ false
 IsExprKept stands meaning (Some expr) = term_of 0 expr ≡ term_of_meaning meaning
 
+-- the tags of an expression that is kept are of the kinds that they have among these, and the tag of the trailing context is an s-tag
+abbrev pub HasExprKinds : List Tag → (slash : Option ℕ) → Option Expr → Type 0
+HasExprKinds tags slash expr = IfSome expr (λ expr. HaveKinds tags (kinds_of expr) × IfSome slash (λ number. HasKind tags (number, false)))
+
 -- one of these rules is kept so, where conditions have these names
 pub record IsKeptRule (names : List (List ℕ)) (rules : List RuleOf) (held : KeptRule) (rule : RuleOf) : Type 0 where
   pub number : held.number ≡ rule.act.number
@@ -65,6 +71,7 @@ pub record IsKeptRule (names : List (List ℕ)) (rules : List RuleOf) (held : Ke
   pub end : is_end rule.kind ≡ true → rule.meaning ≡ end_meaning
   pub expr : IsExprKept (may_stand rules rule) rule.meaning held.expr
   pub fits : FitsKept 0 held.expr held.size held.count
+  pub kinds : HasExprKinds held.tags held.slash held.expr
 
 -- the first rule of a kind under a condition, where the rules are numbered from here on
 abbrev pub first_from : (Kind → Bool) → (number : ℕ) → List RuleOf → (cond : List ℕ) → Option FirstRule

@@ -4,6 +4,7 @@ use Rattle.std.specs.List.{AllByRecursion, list_any}
 use Rattle.lx_base.specs.Names.{AreAllowed, IsTagName, Spellings, begins_table, label_prefix}
 use Rattle.lx_base.specs.declared.settings.Format.TheVariants.{Three}
 use Rattle.lx_base.specs.declared.settings.Options.{Options}
+use Rattle.lx_regex.specs.Kinds.{HasRightKinds}
 use Rattle.lx_regex.specs.Pattern.{is_end}
 use Rattle.lx_regex.specs.declared.rules.Rule.{Rule}
 use Rattle.lx_regex.specs.declared.rules.Tag.{Tag}
@@ -49,7 +50,8 @@ IsLabeledApart names scanner = IfSome scanner.cond (λ cond. begins_block_label 
 -- The spellings are ones that a scanner may have, and differ; a code unit at the end is one of the encoding. An automaton can be built
 -- of each scanner: it is within the limits, its rules have different numbers, and their tags, slashes and groups stand in their
 -- expressions. It has a rule `$` exactly where a code unit stands at the end, and such a rule gives nothing. Its tags have names that they
--- may have, but for those of slashes, which have none. In text of format 3 no tag is called as the table of sets, and no label of a
+-- may have, but for those of slashes, which have none; and they are of the same kinds in the rules' expressions and among the rules'
+-- tags, those of slashes s-tags. In text of format 3 no tag is called as the table of sets, and no label of a
 -- condition begins as the label of a block. Scanners and actions belong together.
 pub record IsWellFormed (options : Options) (resolved : Resolved) : Type 0 where
   pub spellings : AreAllowed resolved.config.names
@@ -60,6 +62,7 @@ pub record IsWellFormed (options : Options) (resolved : Resolved) : Type 0 where
   pub ends : AllByRecursion (λ (scanner : Scanner). has_end scanner ≡ is_some resolved.config.eof) resolved.scanners
   pub bare : HaveBareEnds resolved.scanners
   pub tags : AllByRecursion (λ (scanner : Scanner). HaveTagNames resolved.config.names scanner.set.rules) resolved.scanners
+  pub kinds : AllByRecursion (λ (scanner : Scanner). AllByRecursion HasRightKinds scanner.set.rules) resolved.scanners
   pub no_table : options.format ≡ Three → AllByRecursion (λ (scanner : Scanner). AllByRecursion NamesNoTable scanner.set.rules) resolved.scanners
   pub labels : options.format ≡ Three → AllByRecursion (IsLabeledApart resolved.config.names) resolved.scanners
   pub linked : AreLinked options.conds resolved

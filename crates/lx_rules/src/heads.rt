@@ -4,14 +4,14 @@ ghost use Rattle.lx_exprs.specs.Checks.{StopsAt};
 ghost use Rattle.lx_exprs.specs.Expressions.{ContextChecks, IsRead};
 ghost use Rattle.lx_exprs.specs.FitDefinitions.{ScopeFits};
 ghost use Rattle.lx_exprs.specs.Seen.{scope_view};
-ghost use Rattle.lx_exprs.specs.Values.{IsBounded, IsRoom};
+ghost use Rattle.lx_exprs.specs.Values.{HasValueKinds, IsBounded, IsRoom};
 ghost use Rattle.lx_parse.specs.Expressions.{alt};
 ghost use Rattle.lx_parse.specs.Ranges.{HasExpressions, IsPart};
 ghost use Rattle.lx_parse.specs.declared.items.Item.TheVariants as item;
 ghost use Rattle.lx_parse.specs.declared.sorts.Sort.TheVariants.{Star, Dollar};
 ghost use Rattle.lx_rules.specs.Conditions.{room_under};
 ghost use Rattle.lx_rules.specs.Items.{State, twice};
-ghost use Rattle.lx_rules.specs.Keeping.{Holds, IsBoundedExpr, IsBoundedHead, IsContextRead, IsHeadRead, StopsHead};
+ghost use Rattle.lx_rules.specs.Keeping.{HasReadKinds, Holds, IsBoundedExpr, IsBoundedHead, IsContextRead, IsHeadRead, StopsHead};
 ghost use Rattle.lx_exprs.specs.Seen.{IsStop};
 ghost use Rattle.lx_forms.specs.Lexemes.{nth_lexeme, sort_at, sorts_at};
 ghost use Rattle.lx_forms.specs.Seen.{lexemes_view};
@@ -140,6 +140,7 @@ fn read_context(
         (StopsAt (ContextChecks options lexemes definitions from slash until)) }
     ensures bounded { (from : ℕ) → IsRead block.entry.options.now (lexemes_view block.entry.lexemes) (scope_view reader.entry.scope) reader.entry.room from slash first
         → IfOk result IsBoundedExpr }
+    ensures kinds { HasValueKinds first.tags first.value → IfOk result HasReadKinds }
 {
     let Reading { value, tags } = first;
     let number = tags.len();

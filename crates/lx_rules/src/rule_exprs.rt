@@ -1,12 +1,15 @@
 //! The expressions of rules, as they are read.
-ghost use Rattle.std.specs.Prelude.{◌≡◌, ◌<◌, ◌≤◌, ◌⊎◌, ◌+◌, ℕ, suc, IfNone, IfOk, IfSome, false, true, if◌then◌else◌};
+ghost use Rattle.std.specs.Prelude.{◌≡◌, ◌<◌, ◌≤◌, ◌⊎◌, ◌+◌, ◌++◌, ◌∷◌, ℕ, suc, List, IfNone, IfOk, IfSome, Some, false, true, if◌then◌else◌};
 ghost use Rattle.lx_base.specs.declared.limits.TheConstants.{TAG_LIMIT};
 ghost use Rattle.lx_exprs.specs.Defined.{Meaning, is_built, kept, term_of_meaning};
-ghost use Rattle.lx_exprs.specs.Values.{HasTagsBelow, IsBounded, IsValue};
+ghost use Rattle.lx_exprs.specs.Values.{HasTagsBelow, HasValueKinds, IsBounded, IsValue};
 ghost use Rattle.lx_exprs.specs.declared.values.Room.{Room};
 ghost use Rattle.lx_regex.specs.Term.{cat, cons, nil, tag};
 ghost use Rattle.lx_regex.specs.Expr.{size_of, term_of};
+ghost use Rattle.lx_regex.specs.Kinds.{HasKind, kinds_of};
+ghost use Rattle.lx_regex.specs.declared.rules.Tag.{Tag as tag_type};
 ghost use Rattle.lx_rules.specs.Items.{in_whole};
+ghost use Rattle.lx_rules.specs.Kept.{HasExprKinds};
 
 use lx_base::Memory;
 use lx_exprs::expressions::Reading;
@@ -37,6 +40,7 @@ fn in_whole(alloc: Global, is_group: bool, expr: Expr) -> Result<Expr, Memory>
     ensures term { IfOk result (λ whole. term_of 0 whole ≡ in_whole is_group (term_of 0 expr)) }
     ensures size { IfOk result (λ whole. size_of whole ≡ size_of expr) }
     ensures tags { (bound : ℕ) → HasTagsBelow 1 bound (term_of 0 expr) → IfOk result (λ whole. HasTagsBelow 0 bound (term_of 0 whole)) }
+    ensures kinds { IfOk result (λ whole. kinds_of whole ≡ kinds_of expr) }
 {
     if !is_group {
         return Ok(expr);
@@ -57,6 +61,7 @@ fn around_slash(
     ensures size { IfOk result (λ expr. size_of expr ≡ size_of front + 1 + size_of back) }
     ensures tags { (bound : ℕ) → HasTagsBelow 1 bound (term_of 0 front) → HasTagsBelow 1 bound (term_of 0 back) → number < bound
         → IfOk result (λ expr. HasTagsBelow 0 bound (term_of 0 expr)) }
+    ensures kinds { IfOk result (λ expr. kinds_of expr ≡ kinds_of front ++ (number, false) ∷ kinds_of back) }
 {
     let front = in_whole(alloc, is_group, front)?;
     let members = vec![in alloc; front, Expr::STag(number), back]?;
@@ -82,6 +87,8 @@ fn trailing_expr(
     ensures size { IsBounded first → IsBounded second → IfOk result (λ found. IfSome found (λ expr. size_of expr ≤ first.size + 1 + second.size)) }
     ensures tags { (bound : ℕ) → IsBounded first → IsBounded second → first.tags ≤ bound → second.tags ≤ bound → number < bound
         → IfOk result (λ found. IfSome found (λ expr. HasTagsBelow 0 bound (term_of 0 expr))) }
+    ensures kinds { (tags : List tag_type) → HasValueKinds tags first → HasValueKinds tags second → (number < TAG_LIMIT → HasKind tags (number, false))
+        → IfOk result (HasExprKinds tags (Some number)) }
 {
     if !fits {
         return Ok(None);
@@ -104,19 +111,21 @@ fn with_whole(is_group: bool, groups: u64) -> u64
 }
 
 impl RuleExpr {
-    ghost use Rattle.std.specs.Prelude.{◌≡◌, ◌<◌, ◌≤◌, IfOk, None, length, true};
+    ghost use Rattle.std.specs.Prelude.{◌≡◌, ◌<◌, ◌≤◌, IfOk, None, length, false, true};
     ghost use Rattle.lx_base.specs.declared.limits.TheConstants.{TAG_LIMIT};
     ghost use Rattle.lx_exprs.specs.Defined.{Meaning, count_of, is_built, kept};
     ghost use Rattle.lx_exprs.specs.Expressions.{IsReadAs, IsReadAsBehind};
-    ghost use Rattle.lx_exprs.specs.Values.{IsBounded, IsRoom, IsValue};
+    ghost use Rattle.lx_exprs.specs.Values.{HasValueKinds, IsBounded, IsRoom, IsValue};
+    ghost use Rattle.lx_regex.specs.Kinds.{HasKind};
     ghost use Rattle.lx_exprs.specs.declared.values.Room.{Room};
     ghost use Rattle.lx_rules.specs.Items.{any_meaning, as_rule, behind_slash, end_meaning, trailing};
-    ghost use Rattle.lx_rules.specs.Keeping.{IsBoundedExpr, IsRuleExpr};
+    ghost use Rattle.lx_rules.specs.Keeping.{HasReadKinds, IsBoundedExpr, IsRuleExpr};
 
     /// What stands in the place of an expression of `$`, which has none.
     pub fn none(alloc: Global) -> RuleExpr
         ensures means { IsRuleExpr true end_meaning None result }
         ensures bounded { IsBoundedExpr result }
+        ensures kinds { HasReadKinds result }
     {
         RuleExpr {
             size: 1,
@@ -133,6 +142,7 @@ impl RuleExpr {
     pub fn any(alloc: Global, is_group: bool) -> Result<RuleExpr, Memory>
         ensures means { IfOk result (IsRuleExpr true (as_rule is_group any_meaning) None) }
         ensures bounded { IfOk result IsBoundedExpr }
+        ensures kinds { IfOk result HasReadKinds }
     {
         Ok(RuleExpr {
             size: 1,
@@ -149,6 +159,7 @@ impl RuleExpr {
     pub fn of(alloc: Global, is_group: bool, reading: Reading) -> Result<RuleExpr, Memory>
         ensures means { (room : Room) (meaning : Meaning) → IsReadAs room meaning reading → IfOk result (IsRuleExpr (is_built room meaning) (as_rule is_group meaning) None) }
         ensures bounded { IsBounded reading.value → IfOk result IsBoundedExpr }
+        ensures kinds { HasValueKinds reading.tags reading.value → IfOk result HasReadKinds }
     {
         let Reading { value, tags } = reading;
         let (size, nesting, count) = (value.size, value.nesting, value.tags);
@@ -185,6 +196,8 @@ impl RuleExpr {
             → IsReadAsBehind room (behind_slash meaning) later second
             → IfOk result (IsRuleExpr (is_built room (trailing is_group meaning later).means) (trailing is_group meaning later).means (trailing is_group meaning later).slash) }
         ensures bounded { IsBounded first → IsBounded second.value → first.tags ≤ second.value.tags → IfOk result IsBoundedExpr }
+        ensures kinds { HasValueKinds second.tags first → HasValueKinds second.tags second.value
+            → (number < TAG_LIMIT → HasKind second.tags (number, false)) → IfOk result HasReadKinds }
     {
         let Reading { value, tags } = second;
         let size = sum(sum(first.size, 1), value.size);

@@ -2,6 +2,7 @@
 use Rattle.std.proofs.Common.{◌≡◌, ◌≢◌, ℕ, zero, suc, ◌≤◌, inl, inr, Bool, true, false, List, [], ◌∷◌, map, length, Option, None, Some, Ok, refl, sym, ap, ap₂, ◌∙◌, subst}
 use Rattle.std.specs.Prelude.{◌||◌, is_some}
 use Rattle.std.specs.List.{AllByRecursion, list_any}
+use Rattle.std.proofs.lemmas.List.Elements.{recursion_from_All}
 use Rattle.lx_base.specs.Names.{Spellings, IsTagName}
 use Rattle.lx_base.specs.declared.blocks.BlockKind.{BlockKind}
 use Rattle.lx_base.specs.declared.blocks.BlockKind.TheVariants.{Rules}
@@ -15,13 +16,14 @@ use Rattle.lx_forms.specs.Lexemes.{lexemes_of}
 use Rattle.lx_parse.specs.Blocks.{IsBody, form_of}
 use Rattle.lx_parse.specs.Sorts.{sorts_of}
 use Rattle.lx_parse.specs.declared.items.Item.{Item}
+use Rattle.lx_regex.specs.Kinds.{HasRightKinds}
 use Rattle.lx_regex.specs.Pattern as regex
 use Rattle.lx_regex.specs.Pattern.{Pattern}
 use Rattle.lx_regex.specs.declared.rules.Rule.{Rule}
 use Rattle.lx_regex.specs.declared.rules.Tag.{Tag}
 use Rattle.lx_rules.specs.Blocks.{AreScanners, HasRules, IsResolved, IsResolvedAs, LabelsDiffer, MayBeNamed, MayBeTag, Resolves, ScannerChecks, StandsUnder, conditions_of, given_names, names_of, of_scanners, of_use, pattern_of, rules_of, scanner_fault, scanners_fault, to_keep}
 use Rattle.lx_rules.specs.Environments.{Environment, config_of}
-use Rattle.lx_rules.specs.FitScanners.{FitsLimits}
+use Rattle.lx_rules.specs.FitScanners.{FitsLimits, IsFit}
 use Rattle.lx_rules.specs.Linked.{AreLinked}
 use Rattle.lx_rules.specs.Items.{State, end_meaning, first_state, is_end}
 use Rattle.lx_rules.specs.Rules.{RuleOf}
@@ -160,6 +162,12 @@ rules_bare (one ∷ built) (rule ∷ rules) same bare =
     let rest : map regex.pattern_of built ≡ map pattern_of rules = let h = same in cc in
     (built_bare one rule first bare.0, rules_bare built rules rest bare.1)
 
+-- tags are of their kinds in scanners that are fit
+each_kinds : (acts : ℕ) (scanners : List Scanner) → AllByRecursion (IsFit acts) scanners
+    → AllByRecursion (λ (scanner : Scanner). AllByRecursion HasRightKinds scanner.set.rules) scanners
+each_kinds acts [] are = tt
+each_kinds acts (scanner ∷ scanners) are = (are.0.kinds, each_kinds acts scanners are.1)
+
 -- ---- the scanners of a block
 
 module _ (at : Pos) (state : State) (named : Bool) where
@@ -288,6 +296,7 @@ module _ (options : Options) (kind : BlockKind) (at start : Pos) (environment af
         ends = ends;
         bare = bare;
         tags = tags;
+        kinds = each_kinds (length resolved.acts) resolved.scanners (recursion_from_All (IsFit (length resolved.acts)) resolved.scanners fits.scanners);
         no_table = no_table;
         labels = labels;
         linked = belong;

@@ -1,10 +1,10 @@
 -- The rules of a scanner as copies of those that are kept.
-use Rattle.std.proofs.Common.{◌≡◌, ℕ, zero, suc, ◌+◌, ◌*◌, ◌<◌, List, [], ◌∷◌, ◌++◌, map, length, take, get_or, None, refl, sym, ap, ap₂, ◌∙◌, subst, arith}
+use Rattle.std.proofs.Common.{◌≡◌, ℕ, zero, suc, ◌+◌, ◌*◌, ◌<◌, Bool, List, [], ◌∷◌, ◌++◌, map, length, take, get_or, None, refl, sym, ap, ap₂, ◌∙◌, subst, arith}
 use Rattle.std.specs.Borrow.{Bor}
 use Rattle.std.specs.List.{AllByRecursion, AllZip}
 use Rattle.std.proofs.lemmas.List.{map_more}
 use Rattle.std.proofs.lemmas.Slice.Zip.{all_zipped_more}
-use Rattle.lx_exprs.specs.Meanings.{shifted, shifted_all}
+use Rattle.lx_exprs.specs.Meanings.{moved, shifted, shifted_all}
 use Rattle.lx_regex.specs.Term.{Term, Terms, empty, class, any_unit, cat, alt, repeat, tag, group, nil, cons}
 use Rattle.lx_regex.specs.declared.rules.Rule.{Rule}
 use Rattle.lx_rules.specs.declared.kept.KeptRule.{KeptRule}
@@ -28,6 +28,13 @@ mutual
   shifted_all-nothing : (members : Terms) → shifted_all 0 0 members ≡ members
   shifted_all-nothing nil = refl
   shifted_all-nothing (cons member members) = ap₂ cons (shifted-nothing member) (shifted_all-nothing members)
+
+-- and the same tags
+pub moved-nothing : (kinds : List (ℕ × Bool)) → moved 0 kinds ≡ kinds
+moved-nothing [] = refl
+moved-nothing (one ∷ kinds) =
+    let same : one.0 + 0 ≡ one.0 = omega arith in
+    ap₂ (λ (number : ℕ) (others : List (ℕ × Bool)). (number, one.1) ∷ others) same (moved-nothing kinds)
 
 -- each of the rules can be copied
 pub built_at : (held : List (Bor KeptRule)) (place : ℕ) (one : Bor KeptRule) → place < length held → one ≡ get_or held place one

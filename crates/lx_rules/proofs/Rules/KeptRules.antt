@@ -21,8 +21,8 @@ use Rattle.lx_rules.specs.declared.rule_exprs.RuleExpr.{RuleExpr}
 use Rattle.lx_rules.specs.Blocks.{add_conds}
 use Rattle.lx_rules.specs.Conditions.{AreNumbers, cond_names, conds_seen, nothing_runs, places_of, room_behind, room_under, running_of, running_with, standing_of, standing_with}
 use Rattle.lx_rules.specs.Items.{end_meaning, is_default, is_end}
-use Rattle.lx_rules.specs.Keeping.{IsBoundedExpr, IsBoundedHead, IsExprOf, IsHeadKept, IsHeadOf, IsRuleExpr, standing_in}
-use Rattle.lx_rules.specs.Kept.{AreKept, IsExprKept, IsKeptRule, IsRunning, is_within, may_stand, plain_under, places_from}
+use Rattle.lx_rules.specs.Keeping.{HasReadKinds, IsBoundedExpr, IsBoundedHead, IsExprOf, IsFitExpr, IsHeadKept, IsHeadOf, IsRuleExpr, standing_in}
+use Rattle.lx_rules.specs.Kept.{AreKept, HasExprKinds, IsExprKept, IsKeptRule, IsRunning, is_within, may_stand, plain_under, places_from}
 use Rattle.lx_rules.specs.Rules.{RuleOf}
 use Rattle.lx_rules.proofs.CondSets.CondNames.{add_conds-front, conditions_of-snoc, is_among-here, is_among-there}
 use Rattle.lx_rules.proofs.CondSets.CondNumbers.{AreNumbers-more, conds_seen-more}
@@ -71,6 +71,9 @@ stands_with rule read = standing_in read rule.act.number rule.at
 fits_of : (one : KeptRule) (read : RuleExpr) → IsExprOf read one → IsBoundedExpr read → FitsKept 0 one.expr one.size one.count
 fits_of one read is bounded = let expr = is.expr in let size = is.size in let count = is.count in rw (expr, size, count) bounded
 
+kinds_kept : (one : KeptRule) (read : RuleExpr) → IsExprOf read one → HasReadKinds read → HasExprKinds one.tags one.slash one.expr
+kinds_kept one read is kinds = let tags = is.tags in let slash = is.slash in let expr = is.expr in rw (tags, slash, expr) kinds
+
 counted_kept : (one : KeptRule) (read : RuleExpr) → IsExprOf read one → IfSome read.slash (λ number. number ≤ read.count)
     → IfSome one.slash (λ number. number ≤ one.count)
 counted_kept one read is counts = let slash = is.slash in let count = is.count in rw (slash, count) counts
@@ -92,6 +95,7 @@ record IsOneKept (all : List RuleOf) (rule : RuleOf) (one : KeptRule) (read : He
   end : is_end rule.kind ≡ true → rule.meaning ≡ end_meaning
   expr : IsExprKept (may_stand all rule) rule.meaning one.expr
   fits : FitsKept 0 one.expr one.size one.count
+  kinds : HasExprKinds one.tags one.slash one.expr
   counts : (cond : List ℕ) → is_among cond rule.conds ≡ true → IsRunning (plain_under cond (rule ∷ [])) (standing_in read number at).running
 
 module _ (rules : List RuleOf) (rule : RuleOf) (held : List KeptRule) (before : Conditions) (is : AreKept rules held before) where
@@ -123,6 +127,7 @@ module _ (rules : List RuleOf) (rule : RuleOf) (held : List KeptRule) (before : 
         end = so.end;
         expr = expr_more (may_stand rules other) (may_stand all other) other.meaning one.expr (may_stand-more rules (rule ∷ []) other) so.expr;
         fits = so.fits;
+        kinds = so.kinds;
       }
 
   -- a rule that has room in none of its conditions may stand in no scanner
@@ -156,7 +161,7 @@ module _ (rules : List RuleOf) (rule : RuleOf) (held : List KeptRule) (before : 
   -- the new rule is kept
   expr_kept :
       (one : KeptRule) (given : Head) (number : ℕ) (at : Pos) (stands : Bool) (read : RuleExpr) → one.kind ≡ rule.kind
-      → IsRuleExpr stands rule.meaning rule.slash read → IsExprOf read one → IsBoundedExpr read → (is_end rule.kind ≡ true → rule.meaning ≡ end_meaning)
+      → IsRuleExpr stands rule.meaning rule.slash read → IsExprOf read one → IsFitExpr read → (is_end rule.kind ≡ true → rule.meaning ≡ end_meaning)
       → ((expr : Option Expr) → IsExprKept stands rule.meaning expr → IsExprKept (may_stand all rule) rule.meaning expr)
       → ((cond : List ℕ) → is_among cond rule.conds ≡ true → IsRunning (plain_under cond (rule ∷ [])) (standing_in given number at).running)
       → IsOneKept all rule one given number at
@@ -172,7 +177,8 @@ module _ (rules : List RuleOf) (rule : RuleOf) (held : List KeptRule) (before : 
     counted = counted_kept one read same means.counted;
     end = end;
     expr = expr one.expr (subst (IsExprKept stands rule.meaning) (sym same.expr) means.expr);
-    fits = fits_of one read same bounded;
+    fits = fits_of one read same bounded.0;
+    kinds = kinds_kept one read same bounded.1;
     counts = counts;
   }
 
@@ -270,6 +276,7 @@ module _ (rules : List RuleOf) (rule : RuleOf) (held : List KeptRule) (before : 
             end = new.end;
             expr = new.expr;
             fits = new.fits;
+            kinds = new.kinds;
           }
 
       runs : (cond : List ℕ) (test : Bool) → is_among cond rule.conds ≡ test → IsRunning (plain_under cond all) (running_of after cond)

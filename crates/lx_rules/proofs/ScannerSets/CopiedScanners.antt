@@ -11,6 +11,7 @@ use Rattle.lx_base.specs.declared.faults.Stop.{Stop}
 use Rattle.lx_base.specs.declared.faults.Stop.TheVariants as stop
 use Rattle.lx_base.specs.declared.places.Pos.{Pos}
 use Rattle.lx_regex.specs.Expr.{size_of, term_of}
+use Rattle.lx_regex.specs.Kinds.{HasKind, HasRightKinds, HaveKinds, kinds_of}
 use Rattle.lx_regex.specs.Limits.{end_count, sizes_of}
 use Rattle.lx_regex.specs.Pattern as regex
 use Rattle.lx_regex.specs.Pattern.{Pattern}
@@ -28,7 +29,7 @@ use Rattle.lx_rules.specs.declared.resolved.Scanner.{Scanner}
 use Rattle.lx_rules.specs.Blocks as blocks
 use Rattle.lx_rules.specs.Blocks.{AreScanners, cond_name, every, given_names, names_of, not_of_kind, pattern_of, rules_of, scanner_fault, scanners_fault, tags_of}
 use Rattle.lx_rules.specs.Finishing.{IsBuilt, IsCopyOf, IsBuiltScanner, kept_rules_of}
-use Rattle.lx_rules.specs.Kept.{IsExprKept, IsKeptRule, is_within, may_stand, places_from}
+use Rattle.lx_rules.specs.Kept.{HasExprKinds, IsExprKept, IsKeptRule, is_within, may_stand, places_from}
 use Rattle.lx_rules.specs.Rules.{RuleOf}
 use Rattle.lx_rules.specs.FitScanners.{IsFit}
 use Rattle.lx_rules.specs.Items.{is_end}
@@ -76,6 +77,15 @@ module _ (names : List (List ℕ)) (all : List RuleOf) (cond : List ℕ) (own : 
           let none = ap (λ (meaning : Meaning). meaning.count) (is.end e) in (built (omega (arith, none)), later most)
       at false e most later = (built (omega (arith, most)), later (omega (arith, most)))
 
+-- a copy has tags of the same kinds
+kinds_same : (tags others : List Tag) (slash other : Option ℕ) (kinds known : List (ℕ × Bool)) → tags ≡ others → slash ≡ other → kinds ≡ known
+    → HaveKinds others known × IfSome other (λ number. HasKind others (number, false))
+    → HaveKinds tags kinds × IfSome slash (λ number. HasKind tags (number, false))
+kinds_same tags others slash other kinds known same_tags same_slash same_kinds are =
+    subst (λ l. HaveKinds l kinds × IfSome slash (λ number. HasKind l (number, false))) (sym same_tags)
+    (subst (λ s. HaveKinds others kinds × IfSome s (λ number. HasKind others (number, false))) (sym same_slash)
+    (subst (λ k. HaveKinds others k × IfSome other (λ number. HasKind others (number, false))) (sym same_kinds) are))
+
 -- the rule of a scanner is as it is wanted
 record IsCopied (most : ℕ) (built : Rule) (rule : RuleOf) : Type 0 where
   pattern : regex.pattern_of built ≡ pattern_of rule
@@ -83,6 +93,7 @@ record IsCopied (most : ℕ) (built : Rule) (rule : RuleOf) : Type 0 where
   some : 1 ≤ rule.meaning.size
   size : size_of built.expr ≤ rule.meaning.size
   number : (0 < built.number) × (built.number ≤ most)
+  kinds : HasRightKinds built
 
 copied : (names : List (List ℕ)) (all : List RuleOf) (one : KeptRule) (rule : RuleOf) (built : Rule) → IsKeptRule names all one rule → IsCopyOf one built
     → IsCopied (length all) built rule
@@ -99,6 +110,9 @@ copied names all one rule built is copy = record {
   some = let least = fits.0 in let size = is.size in omega (arith, least, size);
   size = let less = fits.1 in let size = is.size in let same = copy.size in omega (arith, less, size, same);
   number = let same = copy.number in let placed = is.placed in (omega (arith, same, placed.0), omega (arith, same, placed.1));
+  kinds =
+      kinds_same built.tags one.tags built.slash one.slash (kinds_of built.expr) (kinds_of copy.expr) copy.tags copy.slash copy.kinds
+      (subst (HasExprKinds one.tags one.slash) copy.kept is.kinds);
 }
   where
     number : built.number ≡ rule.act.number
@@ -165,6 +179,12 @@ module _ (most : ℕ) where
   numbers_are (one ∷ built) [] are = absurd are
   numbers_are (one ∷ built) (rule ∷ rules) are = (are.0.number, numbers_are built rules are.1)
 
+  kinds_are : (built : List Rule) (rules : List RuleOf) → AllZip (IsCopied most) built rules → AllByRecursion HasRightKinds built
+  kinds_are [] [] are = tt
+  kinds_are [] (rule ∷ rules) are = absurd are
+  kinds_are (one ∷ built) [] are = absurd are
+  kinds_are (one ∷ built) (rule ∷ rules) are = (are.0.kinds, kinds_are built rules are.1)
+
 module _ (named : Bool) (at : Pos) (eof : Option ℕ) (names : List (List ℕ)) (held : List KeptRule) (rules : List RuleOf) (are : AllZip (IsKeptRule names rules) held rules)
     (places : List ℕ → List ℕ) (placed : (cond : List ℕ) → places cond ≡ places_from 0 rules cond) (cond : List ℕ) where
   -- the rules of the scanner are as its checks want them
@@ -199,6 +219,7 @@ module _ (named : Bool) (at : Pos) (eof : Option ℕ) (names : List (List ℕ)) 
             size = omega (arith, small.0, size);
             few = omega (arith, small.1, size);
             numbers = All-from_recursion (λ (rule : Rule). (0 < rule.number) × (rule.number ≤ length rules)) built (numbers_are (length rules) built wanted all);
+            kinds = kinds_are (length rules) built wanted all;
           },
         )
 

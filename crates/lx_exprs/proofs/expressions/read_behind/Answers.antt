@@ -1,4 +1,4 @@
-use Rattle.std.proofs.Common.{◌∙◌, map, subst}
+use Rattle.std.proofs.Common.{◌∙◌, map, subst, sym}
 use Rattle.std.proofs.lemmas.Result.{err_from_is_err_and}
 use Rattle.lx_exprs.specs.Reading.{AreTaken, StopsReading, operands_behind}
 use Rattle.lx_exprs.specs.Defined.{Before}
@@ -6,6 +6,7 @@ use Rattle.lx_exprs.specs.Seen.{scope_view}
 use Rattle.lx_forms.specs.Seen.{lexemes_view}
 use Rattle.lx_forms.specs.StepViews.{step_view}
 use Rattle.lx_exprs.proofs.Forms.ExpressionRanges.{part_in_order, part_read, part_stops, steps_are}
+use Rattle.lx_exprs.specs.Values.{HasValueKinds}
 use Rattle.lx_exprs.proofs.expressions.read_behind.Goals as goal
 
 pub take_steps-requires-clause-order : goal.take_steps-requires-clause-order
@@ -40,3 +41,9 @@ returns-clause-read c =
     (record { value = c.in_ok-value.value; tags = c.in_ok-tags.tags })
     (subst (λ l. AreTaken options definitions c.args.reader.room (operands_behind before) (map view l) c.in_ok-operands.operands) c.deref.ensures.value c.in_ok-operands.ensures.taken)
     c.pop.ensures.values (c.in_ok-tags.ensures ∙ c.into_seen.ensures ∙ c.pop.ensures.seen) c.in_ok-value.ensures.stands
+
+pub returns-clause-kinds : goal.returns-clause-kinds
+returns-clause-kinds c =
+    let seen = c.in_ok-operands.operands.seen in
+    subst (λ tags. HasValueKinds tags c.in_ok-value.value) (sym (c.in_ok-tags.ensures ∙ c.into_seen.ensures ∙ c.pop.ensures.seen))
+    (c.in_ok-value.ensures.kinds seen (c.pop.ensures.kinds seen c.in_ok-operands.ensures.kinds).1)

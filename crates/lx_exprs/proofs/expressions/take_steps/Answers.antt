@@ -15,6 +15,7 @@ loop-step-init c =
       taken = record { after = (operands_behind (record { tags = c.args.seen; groups = c.args.groups })); goes = ends; stands = c.behind-operands.ensures.stands c.args.reader.room };
       order = subst (λ n. AreInOrder n (map (step_view (lexemes_view c.args.lexemes)) c.args.steps.now)) (sym none) c.requires.order;
       bounded = c.behind-operands.ensures.bounded;
+      kinds = c.behind-operands.ensures.kinds c.behind-operands.result.seen;
     }
 
 pub take-requires-clause-needs : goal.take-requires-clause-needs
@@ -67,4 +68,5 @@ loop-step-preserved c =
       };
       order = subst (λ n. AreInOrder n (drop (suc place) (map view steps))) (sym c.in_ok-take.ensures.depth) order.1;
       bounded = c.in_ok-take.ensures.bounded c.loop-step.invariant.bounded;
+      kinds = c.in_ok-take.ensures.kinds c.loop-step.invariant.kinds;
     }

@@ -1,5 +1,5 @@
 use Rattle.std.proofs.Common.{length, map, take, drop}
-use Rattle.lx_exprs.specs.Reading.{AreBounded, AreInOrder, AreTaken, operands_behind}
+use Rattle.lx_exprs.specs.Reading.{AreBounded, AreInOrder, AreTaken, HasOwnKinds, operands_behind}
 use Rattle.lx_exprs.specs.Seen.{scope_view}
 use Rattle.lx_forms.specs.Seen.{lexemes_view}
 use Rattle.lx_forms.specs.StepViews.{step_view}
@@ -11,4 +11,5 @@ invariant-loop-step l = record {
       (take l.step-index (map (step_view (lexemes_view l.lexemes)) l.steps)) l.operands;
   order : AreInOrder (length l.operands.values.items) (drop l.step-index (map (step_view (lexemes_view l.lexemes)) l.steps));
   bounded : AreBounded l.operands.values.items;
+  kinds : HasOwnKinds l.operands;
 }

@@ -34,3 +34,6 @@ returns-in_ok-read_line-in-Signs-clause-read c =
     let before : Before = record { tags = c.args.seen.now; groups = c.args.groups } in
     let count : c.count_of-count.result ≡ kept (count_of before) = omega (arith, c.len.ensures, c.count_of-count.ensures) in
     c.in_ok-read_line-in-Signs.ensures.read before (lexeme_view c.args.lexeme.now) count c.in-Signs.is
+
+pub returns-in_ok-read_line-in-Signs-clause-kinds : goal.returns-in_ok-read_line-in-Signs-clause-kinds
+returns-in_ok-read_line-in-Signs-clause-kinds c = c.in_ok-read_line-in-Signs.ensures.kinds c.args.seen.now

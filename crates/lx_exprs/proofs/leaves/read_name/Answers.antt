@@ -7,7 +7,7 @@ use Rattle.lx_exprs.specs.Defined.{Before, and_more, count_of, definition_of, is
 use Rattle.lx_exprs.specs.Meanings.{copied}
 use Rattle.lx_exprs.specs.Seen.{definition_view, scope_view}
 use Rattle.lx_forms.specs.Seen.{lexeme_view}
-use Rattle.lx_exprs.specs.Values.{AreTagsBelow, IsCounted}
+use Rattle.lx_exprs.specs.Values.{AreTagsBelow, HasKinds, IsCounted}
 use Rattle.lx_exprs.proofs.Contents.LeafContents.{fits-tagged, size-some}
 use Rattle.lx_exprs.proofs.Contents.LeafSteps.{kind-read}
 use Rattle.lx_exprs.proofs.leaves.read_name.Goals as goal
@@ -44,7 +44,7 @@ returns-clause-bounded c =
     let before : Before = record { tags = c.args.seen.now; groups = c.args.groups } in
     let held = c.in-Some.kept.now in
     let fit = c.in-Some.ensures.fit c.requires.fit in
-    let some = size-some 1 held.expr held.size (length held.tags + 2 * held.groups) fit in
+    let some = size-some 1 held.expr held.size (length held.tags + 2 * held.groups) fit.0 in
     let size = c.in_ok-content.ensures.size in
     let added : c.add.new.self ≡ before.tags ++ held.tags = c.in_ok-add.ensures in
     let many = ap (λ (l : List Tag). length l) added in
@@ -54,3 +54,8 @@ returns-clause-bounded c =
     (λ small. omega (arith, size, small, c.sum-size.ensures))
     (subst (λ count. AreTagsBelow count c.in_ok-content.content) (sym tags)
     (c.in_ok-content.ensures.tags before c.len-by.ensures refl))
+
+pub returns-clause-kinds : goal.returns-clause-kinds
+returns-clause-kinds c =
+    c.in_ok-limited.ensures.kinds c.add.new.self
+    (subst (λ tags. HasKinds tags c.in_ok-content.content) (sym c.in_ok-add.ensures) (c.in_ok-content.ensures.kinds c.args.seen.now c.len-by.ensures))

@@ -20,3 +20,6 @@ pub returns-clause-bounded : goal.returns-clause-bounded
 returns-clause-bounded c =
     let size = c.class_content-content.ensures.size in
     c.in_ok-limited.ensures.bounded (omega arith) (λ small. omega (arith, size)) (c.class_content-content.ensures.tags c.args.count)
+
+pub returns-clause-kinds : goal.returns-clause-kinds
+returns-clause-kinds c tags = c.in_ok-limited.ensures.kinds tags (c.class_content-content.ensures.kinds tags)

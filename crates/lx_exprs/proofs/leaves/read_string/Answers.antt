@@ -50,3 +50,6 @@ returns-clause-bounded c =
     let size = c.in_ok-content.ensures.size in
     c.in_ok-limited.ensures.bounded (omega (arith, c.sum-size.ensures, c.max.ensures))
     (λ small. omega (arith, size, small, c.sum-size.ensures, c.max.ensures)) (c.in_ok-content.ensures.tags c.args.count)
+
+pub returns-clause-kinds : goal.returns-clause-kinds
+returns-clause-kinds c tags = c.in_ok-limited.ensures.kinds tags (c.in_ok-content.ensures.kinds tags)

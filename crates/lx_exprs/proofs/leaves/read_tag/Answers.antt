@@ -4,7 +4,7 @@ use Rattle.lx_exprs.specs.Defined.{Before, count_of, is_built, kept}
 use Rattle.lx_exprs.specs.Meanings.{tag_meaning}
 use Rattle.lx_exprs.specs.Seen.{scope_view}
 use Rattle.lx_forms.specs.Seen.{lexeme_view}
-use Rattle.lx_exprs.specs.Values.{AreTagsBelow}
+use Rattle.lx_exprs.specs.Values.{AreTagsBelow, HasKinds}
 use Rattle.lx_exprs.proofs.Contents.LeafContents.{fits-tagged}
 use Rattle.lx_exprs.proofs.Contents.LeafSteps.{tag-read, tag_fault-none}
 use Rattle.lx_exprs.proofs.leaves.read_tag.Goals as goal
@@ -35,3 +35,9 @@ returns-clause-bounded c =
     c.in_ok-limited.ensures.bounded (omega arith) (λ small. omega (arith, size))
     (subst (λ count. AreTagsBelow count c.tag_content-content.result) (sym tags)
     (c.tag_content-content.ensures.tags before c.len-number.ensures))
+
+pub returns-clause-kinds : goal.returns-clause-kinds
+returns-clause-kinds c =
+    c.in_ok-limited.ensures.kinds c.push.new.self
+    (subst (λ tags. HasKinds tags c.tag_content-content.result) (sym c.in_ok-push.ensures)
+    (c.tag_content-content.ensures.kinds c.args.seen.now (record { name = c.tag_name-name.result.now; many = c.args.many }) c.len-number.ensures refl))

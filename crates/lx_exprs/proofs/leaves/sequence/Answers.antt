@@ -1,4 +1,4 @@
-use Rattle.std.proofs.Common.{◌≡◌, ◌∙◌, ◌+◌, ap, ap₂, map, sum, sym, rules}
+use Rattle.std.proofs.Common.{◌≡◌, ◌∙◌, ◌+◌, ◌++◌, ◌∷◌, [], ap, ap₂, map, sum, sym, rules}
 use Rattle.std.proofs.lemmas.List.{map_push, take_all}
 use Rattle.std.proofs.lemmas.List.Sums.{sum_by_push}
 use Rattle.std.proofs.lemmas.Simd.{map-map}
@@ -10,6 +10,8 @@ use Rattle.lx_regex.specs.declared.expr.Expr.TheVariants.{Class}
 use Rattle.lx_token.specs.declared.characters.Character.{Character}
 use Rattle.lx_exprs.specs.Meanings.{character_set, set_term}
 use Rattle.lx_exprs.proofs.Contents.LeafContents.{map-taken}
+use Rattle.lx_regex.specs.Kinds.{joined, kinds_of}
+use Rattle.lx_regex.proofs.Trees.Kinds.{kinds-append, kinds-one, kinds_of-cat, kinds_of-class}
 use Rattle.lx_exprs.proofs.leaves.sequence.Goals as goal
 
 pub loop-character-preserved : goal.loop-character-preserved
@@ -23,6 +25,9 @@ loop-character-preserved c =
       sizes =
           ap (λ members. sum (map size_of members)) pushed ∙ ap sum (map_push size_of c.loop-character.members.items (Class c.in_ok-set.set))
           ∙ sum_by_push (λ size. size) (map size_of c.loop-character.members.items) (size_of (Class c.in_ok-set.set)) ∙ ap₂ ◌+◌ c.loop-character.invariant.sizes one;
+      kinds =
+          ap (λ members. joined (map kinds_of members)) pushed ∙ kinds-append c.loop-character.members.items (Class c.in_ok-set.set ∷ [])
+          ∙ ap₂ ◌++◌ c.loop-character.invariant.kinds (kinds-one (Class c.in_ok-set.set) ∙ kinds_of-class c.in_ok-set.set);
     }
 
 pub returns-clause-term : goal.returns-clause-term
@@ -34,3 +39,6 @@ returns-clause-term c =
     let fused = ap (map set_term) (map-map set (λ (character : Character). character.point) characters) ∙ map-map set_term (λ (character : Character). set character.point) characters in
     term_of-cat 0 c.loop-character.members
     ∙ ap (λ terms. cat (members_of terms)) (c.loop-character.invariant.terms ∙ ap (map each) all ∙ sym fused)
+
+pub returns-clause-kinds : goal.returns-clause-kinds
+returns-clause-kinds c = kinds_of-cat c.loop-character.members ∙ c.loop-character.invariant.kinds

@@ -24,8 +24,8 @@ renumbered-rule before rule by number kind slash groups sorts term =
     let terms = ap (λ tags. term_of tags rule.expr) count ∙ term (length before.tags) in
     λ i. record { number = number i; kind = kind i; term = terms i; many = sorts i; slash = slash i; groups = groups i }
 
-pub returns : goal.returns
-returns c same =
+pub returns-clause-pattern : goal.returns-clause-pattern
+returns-clause-pattern c same =
     let rule = c.args.rule.now in
     let before = c.args.before.now in
     renumbered-rule before rule c.args.by (omega arith)
@@ -33,4 +33,4 @@ returns c same =
     (option_eq-differs rule.slash before.slash (sym c.ne-2.ensures ∙ c.if-ne-2.false))
     c.if-rule-before.false
     (ap (map is_many) (sym c.as_slice-2.ensures) ∙ c.if-not-have_same_sorts.ensures refl ∙ ap (map is_many) c.as_slice.ensures)
-    (c.is_same.ensures same)
+    (c.is_same.ensures.term same)

@@ -1,6 +1,7 @@
 use Rattle.std.proofs.Common.{◌∙◌, inl, refl}
 use Rattle.lx_regex.specs.Expr.{term_of}
-use Rattle.lx_rules.proofs.Rules.CopiedRules.{shifted-nothing}
+use Rattle.lx_regex.specs.Kinds.{kinds_of}
+use Rattle.lx_rules.proofs.Rules.CopiedRules.{moved-nothing, shifted-nothing}
 use Rattle.lx_rules.proofs.copies.rule_copy.Goals as goal
 
 pub returns : goal.returns
@@ -15,4 +16,5 @@ returns c = record {
   kept = c.in-Some.is;
   term = c.in_ok-copy.ensures.term ∙ shifted-nothing (term_of 0 c.in-Some.expr);
   size = c.in_ok-copy.ensures.size (inl refl);
+  kinds = c.in_ok-copy.ensures.kinds ∙ moved-nothing (kinds_of c.in-Some.expr);
 }

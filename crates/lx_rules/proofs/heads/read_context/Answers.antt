@@ -1,4 +1,4 @@
-use Rattle.std.proofs.Common.{◌≡◌, ◌∙◌, ◌++◌, ◌∷◌, ◌+◌, suc, arith, [], ap, length, refl, sym, subst}
+use Rattle.std.proofs.Common.{◌≡◌, ◌∙◌, ◌++◌, ◌∷◌, ◌+◌, suc, arith, false, [], ap, length, refl, sym, subst}
 use Rattle.lx_exprs.specs.Defined.{Before, is_built, kept, slash_tag}
 use Rattle.lx_exprs.specs.Checks.{StopsAt}
 use Rattle.lx_exprs.specs.Expressions.{ChecksBehind, IsReadBehind}
@@ -9,6 +9,9 @@ use Rattle.lx_rules.specs.Keeping.{IsRuleExpr}
 use Rattle.lx_rules.proofs.Rules.ContextSteps.{before_is, context_is, context_stops}
 use Rattle.std.proofs.lemmas.Result.{err_from_is_err_and}
 use Rattle.lx_rules.proofs.Rules.ReadContexts.{first_less}
+use Rattle.lx_regex.specs.Kinds.{HasKind, HaveKinds}
+use Rattle.lx_regex.proofs.Trees.Kinds.{HasKind-append, HasKind-last, HaveKinds-append}
+use Rattle.lx_exprs.specs.Values.{content_kinds}
 use Rattle.lx_rules.proofs.heads.read_context.Goals as goal
 
 pub returns-clause-read : goal.returns-clause-read
@@ -67,3 +70,21 @@ returns-clause-bounded c from read =
     c.in_ok-read.ensures.bounded c.requires.bounded c.in_ok-second.ensures.bounded
     (first_less c.are_groups-is_group.result room read.meaning later.meaning first.value c.len-number.result c.in_ok-second.second read.stands.value
     read.stands.count number later.stands)
+
+pub returns-clause-kinds : goal.returns-clause-kinds
+returns-clause-kinds c kinds =
+    let first = c.args.first in
+    let front = first.tags ++ slash_tag ∷ [] in
+    let later = c.in_ok-second.ensures.read in
+    let more = later.meaning.tags in
+    let seen : c.push.new.self ≡ front = c.in_ok-push.ensures ∙ ap (λ tags. tags ++ slash_tag ∷ []) c.behind-seen.ensures in
+    let all : c.in_ok-second.second.tags ≡ front ++ more = later.stands.tags ∙ ap (λ tags. tags ++ more) seen in
+    let held = content_kinds first.value.content in
+    c.in_ok-read.ensures.kinds
+    (subst (λ tags. HaveKinds tags held) (sym all) (HaveKinds-append front more held (HaveKinds-append first.tags (slash_tag ∷ []) held kinds)))
+    c.in_ok-second.ensures.kinds
+    (λ few.
+    let place : c.len-number.result ≡ length first.tags = omega (arith, few, c.len-number.ensures) in
+    subst (λ tags. HasKind tags (c.len-number.result, false)) (sym all)
+    (HasKind-append front more (c.len-number.result, false)
+    (subst (λ number. HasKind front (number, false)) (sym place) (HasKind-last first.tags slash_tag []))))

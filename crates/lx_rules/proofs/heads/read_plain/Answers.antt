@@ -93,3 +93,15 @@ returns-in_err-read-in-Some-clause-read c = λ state holds.
     rw (p.1, p.2)
     (subst (λ slash. StopsHead options lexemes state conds c.args.head slash c.args.until stopped) (sym c.in-Some.is)
     (behind_refused options lexemes known state holds conds c.args.head c.in-Some.slash c.args.until stopped c.requires.star c.requires.dollar stops))
+
+pub returns-in_ok-read-in-Some-clause-bounded : goal.returns-in_ok-read-in-Some-clause-bounded
+returns-in_ok-read-in-Some-clause-bounded c =
+    let options = c.args.block.options.now in
+    let lexemes = lexemes_view c.args.block.lexemes in
+    let last = c.unwrap_or.ensures ∙ ap (λ slash. unwrap_or slash c.args.until) c.in-Some.is in
+    let read = subst (λ l. IsRead options lexemes (scope_view c.scope-scope.result) c.room.result c.args.head l c.in_ok-reading.reading) last c.in_ok-reading.ensures.read in
+    (c.in_ok-read-in-Some.ensures.bounded c.args.head read, c.in_ok-read-in-Some.ensures.kinds c.in_ok-reading.ensures.kinds)
+
+pub returns-in_ok-read-in-None-clause-bounded : goal.returns-in_ok-read-in-None-clause-bounded
+returns-in_ok-read-in-None-clause-bounded c =
+    (c.in_ok-read-in-None.ensures.bounded c.in_ok-reading.ensures.bounded, c.in_ok-read-in-None.ensures.kinds c.in_ok-reading.ensures.kinds)

@@ -11,3 +11,12 @@ returns-clause-bounded c bounded =
     (bounded_front front middle c.pop-other.result c.pop-other.ensures.values rest)
     (c.in_ok-value.ensures.bounded (c.in_ok-left.ensures.bounded (bounded_last front middle c.pop-other.result c.pop-other.ensures.values rest))
     (c.in_ok-right.ensures.bounded (bounded_last middle c.args.self.now.values.items c.pop-last.result c.pop-last.ensures.values bounded)))
+
+pub returns-clause-kinds : goal.returns-clause-kinds
+returns-clause-kinds c are =
+    let tags = c.args.self.now.seen in
+    let last = c.pop-last.ensures.kinds tags are in
+    let other = c.pop-other.ensures.kinds tags last.0 in
+    rw c.in_ok-push.ensures.seen (rw c.pop-other.ensures.seen (rw c.pop-last.ensures.seen
+    (c.in_ok-push.ensures.kinds tags other.0
+    (c.in_ok-value.ensures.kinds tags (c.in_ok-left.ensures.kinds tags other.1) (c.in_ok-right.ensures.kinds tags last.1)))))

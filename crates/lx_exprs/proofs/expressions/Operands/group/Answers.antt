@@ -8,3 +8,10 @@ returns-clause-bounded c bounded =
     bounded_all front c.push.new.self.values.items (operand.Whole c.in_ok-value.value) c.in_ok-push.ensures.values
     (bounded_front front c.args.self.now.values.items c.pop-last.result c.pop-last.ensures.values bounded)
     (c.in_ok-value.ensures.bounded (c.in_ok-inner.ensures.bounded (bounded_last front c.args.self.now.values.items c.pop-last.result c.pop-last.ensures.values bounded)))
+
+pub returns-clause-kinds : goal.returns-clause-kinds
+returns-clause-kinds c are =
+    let tags = c.args.self.now.seen in
+    let last = c.pop-last.ensures.kinds tags are in
+    rw c.in_ok-push.ensures.seen (rw c.pop-last.ensures.seen
+    (c.in_ok-push.ensures.kinds tags last.0 (c.in_ok-value.ensures.kinds tags (c.in_ok-inner.ensures.kinds tags last.1))))

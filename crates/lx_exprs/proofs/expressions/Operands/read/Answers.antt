@@ -3,6 +3,9 @@ use Rattle.lx_exprs.specs.Seen.{scope_view}
 use Rattle.lx_forms.specs.Seen.{lexeme_view}
 use Rattle.lx_exprs.proofs.Forms.ExpressionSteps.{leaf_taken}
 use Rattle.lx_exprs.proofs.Contents.OperandValues.{bounded_all}
+use Rattle.std.proofs.Common.{subst, sym}
+use Rattle.lx_exprs.specs.Reading.{HaveOperandKinds}
+use Rattle.lx_exprs.proofs.Contents.OperandValues.{operand_kinds-more}
 use Rattle.lx_exprs.proofs.expressions.Operands.read.Goals as goal
 
 pub returns-clause-stands : goal.returns-clause-stands
@@ -15,3 +18,11 @@ pub returns-clause-bounded : goal.returns-clause-bounded
 returns-clause-bounded c bounded =
     bounded_all c.args.self.now.values.items c.push.new.self.values.items (operand.Whole c.in_ok-value.value) c.in_ok-push.ensures.values bounded
     c.in_ok-value.ensures.bounded
+
+pub returns-clause-kinds : goal.returns-clause-kinds
+returns-clause-kinds c are =
+    let seen = c.in_ok-value.ensures.read.seen in
+    rw c.in_ok-push.ensures.seen
+    (c.in_ok-push.ensures.kinds c.read_leaf.new.seen
+    (subst (λ tags. HaveOperandKinds tags c.args.self.now.values.items) (sym seen)
+    (operand_kinds-more c.args.self.now.seen c.in_ok-value.ensures.read.meaning.tags c.args.self.now.values.items are)) c.in_ok-value.ensures.kinds)

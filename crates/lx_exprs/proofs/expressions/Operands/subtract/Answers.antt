@@ -34,3 +34,11 @@ returns-clause-bounded c bounded =
     let rest = bounded_front middle c.args.self.now.values.items c.pop-last.result c.pop-last.ensures.values bounded in
     bounded_all front c.push.new.self.values.items c.in_ok-operand.operand c.in_ok-push.ensures.values
     (bounded_front front middle c.pop-left.result c.pop-left.ensures.values rest) c.in_ok-operand.ensures.bounded
+
+pub returns-clause-kinds : goal.returns-clause-kinds
+returns-clause-kinds c are =
+    let tags = c.args.self.now.seen in
+    let last = c.pop-last.ensures.kinds tags are in
+    let left = c.pop-left.ensures.kinds tags last.0 in
+    rw c.in_ok-push.ensures.seen (rw c.pop-left.ensures.seen (rw c.pop-last.ensures.seen
+    (c.in_ok-push.ensures.kinds tags left.0 (c.in_ok-operand.ensures.kinds tags))))

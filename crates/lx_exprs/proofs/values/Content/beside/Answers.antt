@@ -2,8 +2,10 @@ use Rattle.std.proofs.Common.{◌≡◌, ◌+◌, ◌≤◌, map, sum, IfSome, r
 use Rattle.lx_regex.specs.Expr.{members_of, size_of, term_of}
 use Rattle.lx_exprs.specs.Defined.{meant_class}
 use Rattle.lx_exprs.specs.Meanings.{in_choice}
-use Rattle.lx_exprs.specs.Values.{HaveTagsBelow, content_size, is_past}
+use Rattle.lx_exprs.specs.Values.{HaveTagsBelow, content_kinds, content_size, is_past}
 use Rattle.lx_exprs.proofs.Contents.ValueContents.{below-more, choice_more, has_choice, past_of, past_unbuilt, sizes-more}
+use Rattle.lx_regex.specs.Kinds.{joined, kinds_of}
+use Rattle.lx_exprs.proofs.Contents.KindContents.{kinds-more}
 use Rattle.lx_exprs.proofs.values.Content.beside.Goals as goal
 use Rattle.lx_exprs.proofs.values.Content.beside.Goals.{then-not-is_built-via-then-not-is_built, then-not-is_built-via-else-not-is_built+then-not-is_built-2}
 
@@ -35,3 +37,9 @@ returns-clause-tags c bound left right =
     below-more bound c.in-Some.members.items c.push.new.self.items c.in-Some-into_expr.expr c.in_ok-push.ensures.items
     (subst (λ o. IfSome o (λ members. HaveTagsBelow 1 bound (members_of (map (term_of 0) members.items)))) c.in-Some.is (c.in_ok-members.ensures.tags bound left))
     (c.in-Some-into_expr.ensures.tags bound right)
+
+pub returns-clause-kinds : goal.returns-clause-kinds
+returns-clause-kinds c tags left right =
+    kinds-more tags c.in-Some.members.items c.push.new.self.items c.in-Some-into_expr.expr (content_kinds c.args.self) (content_kinds c.args.right) c.in_ok-push.ensures.items
+    (subst (λ o. IfSome o (λ members. joined (map kinds_of members.items) ≡ content_kinds c.args.self)) c.in-Some.is c.in_ok-members.ensures.kinds)
+    c.in-Some-into_expr.ensures.kinds left right

@@ -1,5 +1,7 @@
-use Rattle.std.proofs.Common.{arith, map, subst, sym}
+use Rattle.std.proofs.Common.{◌∙◌, ap, arith, map, subst, sym}
 use Rattle.lx_regex.specs.Expr.{members_of, term_of}
+use Rattle.lx_regex.specs.Kinds.{joined, kinds_of}
+use Rattle.lx_regex.proofs.Trees.Kinds.{kinds-one}
 use Rattle.lx_exprs.specs.Values.{HaveTagsBelow}
 use Rattle.lx_exprs.proofs.Contents.ValueContents.{choice_free, choice_members, choice_one, choice_other}
 use Rattle.lx_exprs.proofs.values.Content.into_choice.Goals as goal
@@ -19,4 +21,5 @@ returns-in_ok-vec-in-Some c =
       size = rw items (omega (arith, size));
       choice = λ choice. absurd (choice_other c.args.self c.in-Some.ensures.kept (λ members same. c.in_default.not-Choice members same) choice);
       tags = λ bound below. subst (λ l. HaveTagsBelow 1 bound (members_of (map (term_of 0) l))) (sym items) (c.in-Some.ensures.tags bound below, tt);
+      kinds = ap (λ l. joined (map kinds_of l)) items ∙ kinds-one c.in-Some.expr ∙ c.in-Some.ensures.kinds;
     }

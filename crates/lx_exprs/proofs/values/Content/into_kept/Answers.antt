@@ -1,3 +1,4 @@
+use Rattle.lx_exprs.proofs.Contents.KindContents.{kept_kinds}
 use Rattle.lx_exprs.proofs.Contents.ValueContents.{kept_fits, not_past, term_kept}
 use Rattle.lx_exprs.proofs.values.Content.into_kept.Goals as goal
 
@@ -9,4 +10,5 @@ returns-in_default c = record {
       (c.into_expr.ensures.built is_built meaning content);
   kept = λ size tags some less below.
       kept_fits c.into_expr.result c.args.self size tags some less below c.into_expr.ensures.size (c.into_expr.ensures.tags tags below);
+  kinds = λ tags are. kept_kinds tags c.into_expr.result c.args.self c.into_expr.ensures.kinds are;
 }

@@ -1,5 +1,7 @@
-use Rattle.std.proofs.Common.{◌≡◌, ◌∙◌, sym}
+use Rattle.std.proofs.Common.{◌≡◌, ◌∙◌, ap, subst, sym}
 use Rattle.lx_exprs.proofs.Contents.ValueContents.{repeated_one}
+use Rattle.lx_regex.specs.Kinds.{HaveKinds, kinds_of}
+use Rattle.lx_regex.proofs.Trees.Kinds.{kinds_of-rep}
 use Rattle.lx_exprs.proofs.values.Content.repeated.Goals as goal
 use Rattle.lx_exprs.proofs.values.Content.repeated.Goals.{in-Some-max, in-None}
 
@@ -11,3 +13,8 @@ returns-clause-stands c built around meaning is off =
     ] in
     repeated_one meaning c.in-Some.body c.in_ok-body.body c.args.bounds.min c.args.bounds.max c.match-bounds.high c.in_ok-body.ensures.ok bound
     (c.in-Some.ensures.built built meaning is)
+
+pub returns-clause-kinds : goal.returns-clause-kinds
+returns-clause-kinds c tags are =
+    subst (HaveKinds tags)
+    (sym (kinds_of-rep c.in_ok-body.body c.args.bounds.min c.match-bounds.high ∙ ap kinds_of c.in_ok-body.ensures.ok ∙ c.in-Some.ensures.kinds)) are

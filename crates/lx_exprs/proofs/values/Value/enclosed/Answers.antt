@@ -18,3 +18,6 @@ returns-clause-bounded c is =
     let less = c.enclosed-content.ensures.size in
     let size = is.size in
     c.limited.ensures.bounded is.some (λ small. omega (arith, less, size)) (c.enclosed-content.ensures.tags c.args.self.tags is.tags)
+
+pub returns-clause-kinds : goal.returns-clause-kinds
+returns-clause-kinds c tags are = c.limited.ensures.kinds tags (c.enclosed-content.ensures.kinds tags are)

@@ -28,3 +28,6 @@ returns-clause-bounded c is is' =
     (c.in_ok-content.ensures.tags c.max-tags.result
     (below_greater c.args.self.tags c.max-tags.result (omega (arith, all)) c.args.self.content is.tags)
     (below_greater c.args.back.tags c.max-tags.result (omega (arith, all)) c.args.back.content is'.tags))
+
+pub returns-clause-kinds : goal.returns-clause-kinds
+returns-clause-kinds c tags one two = c.limited.ensures.kinds tags (c.in_ok-content.ensures.kinds tags one two)

@@ -28,3 +28,6 @@ returns-clause-bounded c is =
     c.limited.ensures.bounded (omega (arith, some, c.sum-size.ensures)) (λ small. omega (arith, less, size, small, c.sum-size.ensures))
     (c.in_ok-content.ensures.tags c.max-tags.result
     (below_greater c.args.self.tags c.max-tags.result (omega (arith, tags)) c.args.self.content is.tags) (λ few. omega (arith, few, tags)))
+
+pub returns-clause-kinds : goal.returns-clause-kinds
+returns-clause-kinds c tags are = c.limited.ensures.kinds tags (c.in_ok-content.ensures.kinds tags are)

@@ -30,3 +30,6 @@ returns-clause-bounded c is =
     rw c.sum-size.ensures (rw c.min.ensures (rw c.saturating_mul.ensures (rw c.times.ensures refl))) in
     c.limited.ensures.bounded (omega (arith, size, some, at_last)) (λ small. omega (arith, less, more, small, size))
     (c.in_ok-content.ensures.tags c.args.self.tags is.tags)
+
+pub returns-clause-kinds : goal.returns-clause-kinds
+returns-clause-kinds c tags are = c.limited.ensures.kinds tags (c.in_ok-content.ensures.kinds tags are)

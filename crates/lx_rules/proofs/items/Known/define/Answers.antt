@@ -53,11 +53,13 @@ returns-clause-taken c = λ state holds.
     } in
     define_taken c.args.block.options.now lexemes c.args.self.now state holds c.args.name c.args.from c.args.until c.add.new.self given reading none read defined
     (subst (λ (l : Lexeme). definitions_view c.add.new.self ≡ definitions_view c.args.self.now.own ++ definition_view l.text given ∷ []) c.at-name.ensures c.in_ok-add.ensures.added)
-    (c.in_ok-add.ensures.fit holds.fit.2
-    (fits_counted 1 c.in_ok-into_kept.field-0 reading.value.size reading.value.tags (length reading.tags + 2 * reading.value.groups)
-    (let tags = read.stands.tags in let all = ap (λ (l : List Tag). length l) tags in let groups = counted.groups_is in
-    let count = read.stands.count in let counts = counted.tags_is in omega (arith, all, groups, count, counts))
-    (c.in_ok-into_kept.ensures.kept c.in_ok-reading.ensures.bounded)))
+    (c.in_ok-add.ensures.fit holds.fit.2 (
+      fits_counted 1 c.in_ok-into_kept.field-0 reading.value.size reading.value.tags (length reading.tags + 2 * reading.value.groups)
+          (let tags = read.stands.tags in let all = ap (λ (l : List Tag). length l) tags in let groups = counted.groups_is in
+          let count = read.stands.count in let counts = counted.tags_is in omega (arith, all, groups, count, counts))
+          (c.in_ok-into_kept.ensures.kept c.in_ok-reading.ensures.bounded),
+      c.in_ok-into_kept.ensures.kinds reading.tags c.in_ok-reading.ensures.kinds,
+    ))
 
 pub add-requires : goal.add-requires
 add-requires c =

@@ -14,3 +14,6 @@ returns-clause-means c meaning later one count number two =
     (subst (λ fit. IfSome found (λ expr. fit ≡ true)) c.fits-fits.ensures c.in_ok-expr.ensures.within)
     (subst (λ fit. IfNone found ((fit ≡ false) ⊎ ((is_built room meaning ≡ false) ⊎ (is_built room later ≡ false)))) c.fits-fits.ensures
     (c.in_ok-expr.ensures.past room meaning later one two.value))
+
+pub returns-clause-kinds : goal.returns-clause-kinds
+returns-clause-kinds c one two slash = c.in_ok-expr.ensures.kinds c.args.second.tags one two slash
