@@ -45,7 +45,7 @@ module _ (by : ℕ) where
     has-also : (state : ℕ) (edge : Edge) → Contains (state_of auto.states state).edges edge → Contains (state_of copy.states state).edges edge
     has-also state edge has = subst (λ edges. Contains edges edge) (sym (edges-renumbered by auto state)) has
 
-    IsReached-renumbered : (point : Point) → IsReached auto point → IsReached copy point
+    pub IsReached-renumbered : (point : Point) → IsReached auto point → IsReached copy point
     IsReached-renumbered _ begins = begins
     IsReached-renumbered _ (goes_on point edge reached has) =
         subst (IsReached copy) (sym (point_behind-renumbered point edge))
