@@ -14,7 +14,7 @@ use Rattle.lx_regex.specs.Expr.{size_of, term_of}
 use Rattle.lx_regex.specs.Kinds.{HasKind, HasRightKinds, HaveKinds, kinds_of}
 use Rattle.lx_regex.specs.Limits.{end_count, sizes_of}
 use Rattle.lx_regex.specs.Pattern as regex
-use Rattle.lx_regex.specs.Pattern.{Pattern}
+use Rattle.lx_regex.specs.Pattern.{Pattern, is_end}
 use Rattle.lx_regex.specs.declared.expr.Expr.{Expr}
 use Rattle.lx_regex.specs.declared.rules.Rule.{Rule}
 use Rattle.lx_regex.specs.declared.rules.Tag.{Tag}
@@ -32,7 +32,6 @@ use Rattle.lx_rules.specs.Finishing.{IsBuilt, IsCopyOf, IsBuiltScanner, kept_rul
 use Rattle.lx_rules.specs.Kept.{HasExprKinds, IsExprKept, IsKeptRule, is_within, may_stand, places_from}
 use Rattle.lx_rules.specs.Rules.{RuleOf}
 use Rattle.lx_rules.specs.FitScanners.{IsFit}
-use Rattle.lx_rules.specs.Items.{is_end}
 use Rattle.lx_rules.proofs.CondSets.CondNames.{list_any-among}
 use Rattle.lx_rules.proofs.Rules.EndRules.{same_end}
 use Rattle.lx_rules.proofs.ScannerSets.KeptScanners.{StandsUnder, rules_of-zip}
