@@ -33,7 +33,6 @@ use Rattle.lx_rules.specs.Kept.{HasExprKinds, IsExprKept, IsKeptRule, is_within,
 use Rattle.lx_rules.specs.Rules.{RuleOf}
 use Rattle.lx_rules.specs.FitScanners.{IsFit}
 use Rattle.lx_rules.proofs.CondSets.CondNames.{list_any-among}
-use Rattle.lx_rules.proofs.Rules.EndRules.{same_end}
 use Rattle.lx_rules.proofs.ScannerSets.KeptScanners.{StandsUnder, rules_of-zip}
 use Rattle.lx_rules.proofs.ScannerSets.ScannerLimits.{AreLimited, own_within, scanner_limited, shared_within}
 use Rattle.lx_rules.proofs.ZippedLists.{zip-both, zip-so}
@@ -160,7 +159,7 @@ module _ (most : ℕ) where
   sizes_small (one ∷ built) (rule ∷ rules) are = at (is_end rule.kind) refl (sizes_small built rules are.1)
     where
       same : (b : Bool) → is_end rule.kind ≡ b → regex.is_end one.kind ≡ b
-      same b e = same_end one.kind ∙ ap (λ (p : Pattern). is_end p.kind) are.0.pattern ∙ e
+      same b e = ap (λ (p : Pattern). is_end p.kind) are.0.pattern ∙ e
 
       at : (b : Bool) → is_end rule.kind ≡ b
           → (sizes_of built ≤ blocks.size_of (not_of_kind is_end rules)) × (length built ≤ blocks.size_of (not_of_kind is_end rules) + end_count built)
