@@ -22,6 +22,10 @@ class Ended(Exception):
     """A check for more units than there are."""
 
 
+class Left(Exception):
+    """The scanner is left at a refill, and comes back at a block."""
+
+
 class WindowFull(Exception):
     """A refill is asked for which the window has no room."""
 
@@ -60,16 +64,18 @@ class Machine:
         self.groups = None
         self.goes = None
 
-    def refill(self, needed):
+    def refill(self, kept, needed):
         """Asks for a refill: whether it added units. A scanner that stores states is left before it, and comes back behind it."""
-        kept = self.limit - self.start
         if kept + needed > self.window:
             raise WindowFull("window full: %d kept, %d needed, %d in all" % (kept, needed, self.window))
         leaves = self.piece.stores() and not self.answered
-        more = min(self.step, self.window - kept, len(self.stream) - self.limit)
+        more = min(self.step, self.window - (self.limit - self.start), len(self.stream) - self.limit)
         self.limit += more
         self.answered = self.answered or more == 0
-        return leaves, more > 0
+        if leaves:
+            self.unit = None
+            raise Left(self.piece.places[self.state])
+        return more > 0
 
     def block_of_cond(self):
         if not self.piece.conds:
@@ -96,6 +102,8 @@ class Machine:
                 return "stuck", None
             except Ended:
                 return "end", None
+            except Left as back:
+                target, steps = back.args[0], steps - 1
             if target is None:
                 at += 1
             else:
@@ -181,20 +189,11 @@ class Machine:
 
     def do_need(self, count):
         while self.limit - self.cursor < count:
-            leaves, added = self.refill(count - (self.limit - self.cursor))
-            if leaves:
-                self.unit = None
-                return self.piece.places[self.state]
-            if not added:
+            if not self.refill(self.cursor - self.start, count):
                 raise Ended
-        return None
 
     def do_try(self, block):
-        leaves, added = self.refill(1)
-        if leaves:
-            self.unit = None
-            return self.piece.places[self.state]
-        return block if added else None
+        return block if self.refill(self.limit - self.start, 1) else None
 
     def do_cond(self, name):
         self.cond = self.goes = name

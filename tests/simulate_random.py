@@ -29,6 +29,8 @@ WINDOWS = [1, 2, 3, 4, 5, 6, 7, 8, 10, 13, 32, 4096]
 STEPS = [1, 1, 2, 3, 4, 5, 6, 4096]
 # of a text: how often it runs as it is, and how often altered
 WHOLE, ALTERED = 6, 6
+# how many runs that differ end the script
+MOST = 20
 
 
 class Trial:
@@ -38,7 +40,7 @@ class Trial:
         self.program, self.folder, self.rng = program, folder, random.Random(seed)
         self.examples = fuzz.examples()
         self.pool = fuzz.Pool(fuzz.EMITTED_TOKENS, fuzz.STATEMENTS)
-        self.counts = collections.Counter()
+        self.counts, self.different = collections.Counter(), 0
         for path in os.listdir(os.path.join(HERE, "..", "examples")):
             path = os.path.join(HERE, "..", "examples", path)
             if os.path.isfile(path):
@@ -90,8 +92,8 @@ class Trial:
 
     # ---- runs
 
-    def differs(self, form, kind, text, data):
-        """Runs a text over an input by both: what differs, if something does."""
+    def run(self, form, kind, text, data):
+        """Runs a text over an input by both."""
         window, step = self.rng.choice(WINDOWS), self.rng.choice(STEPS)
         block = self.rng.choice([1, 2, 3]) if self.rng.random() < 0.1 else None
         self.write("t.c", text)
@@ -102,8 +104,16 @@ class Trial:
         wanted = simulate.run(text, data, ("t.c", "t.in"), block, window, step)
         self.count(form, kind, found)
         if found != wanted:
-            return "%s t.c\n  the program: %r\n  the page:    %r" % (" ".join(words), found, wanted)
-        return None
+            self.keep("%s t.c\n  the program: %r\n  the page:    %r\n" % (" ".join(words), found, wanted))
+
+    def keep(self, told):
+        """Keeps the files of a run that differs."""
+        self.different += 1
+        folder = os.path.join(self.folder, "different%d" % self.different)
+        os.mkdir(folder)
+        for name in ("s.re", "t.c", "t.in"):
+            shutil.copy(os.path.join(self.folder, name), folder)
+        print("in %s: %s" % (folder, told), end="", flush=True)
 
     def count(self, form, kind, found):
         self.counts["runs"] += 1
@@ -116,17 +126,14 @@ class Trial:
             self.counts["to " + found[1].splitlines()[-1].split(" ")[0]] += 1
 
     def round(self):
-        """Runs the outputs of a source: what differs, if something does."""
+        """Runs the outputs of a source."""
         made, inputs = self.texts()
         self.counts["sources"] += 1
         for form, text in made:
             for kind, times in (("whole", WHOLE), ("altered", ALTERED)):
                 for _ in range(times):
                     given = text if kind == "whole" else self.altered(text)
-                    differs = self.differs(form, kind, given, self.rng.choice(inputs))
-                    if differs:
-                        return differs
-        return None
+                    self.run(form, kind, given, self.rng.choice(inputs))
 
 
 def main():
@@ -135,14 +142,12 @@ def main():
     program = os.environ.get("RE2C") or os.path.join(HERE, "..", "bin", "re2c")
     folder = tempfile.mkdtemp()
     trial = Trial(os.path.abspath(program), folder, seed)
-    while trial.counts["runs"] < count:
-        differs = trial.round()
-        if differs:
-            print("simulate_random.py: behind %d runs one differs, in %s:\n%s" % (trial.counts["runs"], folder, differs))
-            return 1
-    shutil.rmtree(folder)
-    print(", ".join("%d %s" % (number, name) for name, number in trial.counts.items()) + ": none differs")
-    return 0
+    while trial.counts["runs"] < count and trial.different < MOST:
+        trial.round()
+    if not trial.different:
+        shutil.rmtree(folder)
+    print(", ".join("%d %s" % (number, name) for name, number in trial.counts.items()) + ": %d differ" % trial.different)
+    return 1 if trial.different else 0
 
 
 if __name__ == "__main__":
