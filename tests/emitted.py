@@ -287,6 +287,13 @@ class Reader:
         line, self.at = self.text[self.at:end], end + 1
         return line
 
+    def bytes(self, at, length):
+        """So many bytes from a place on, which are then read."""
+        if length > len(self.text) - at:
+            raise NotEmitted
+        self.at = at + length
+        return self.text[at:self.at]
+
     def next(self):
         end = self.text.find("\n", self.at)
         return self.text[self.at:end] if end >= 0 else ""
@@ -337,8 +344,7 @@ class Reader:
             length = re.compile(r" (\d+):").match(self.text, self.at)
             if not length:
                 raise NotEmitted
-            self.at = length.end() + int(length[1])
-            self.p.names[name] = self.text[length.end():self.at]
+            self.p.names[name] = self.bytes(length.end(), int(length[1]))
         if self.line() != "*/":
             raise NotEmitted
 
@@ -398,8 +404,7 @@ class Reader:
         line = self.found(LINE.pattern)
         code = CODE.match(self.text, self.at)
         if code:
-            self.at = code.end() + int(code[2])
-            action = self.text[code.end():self.at]
+            action = self.bytes(code.end(), int(code[2]))
             if self.line():
                 raise NotEmitted
             if self.p.format == 3:
