@@ -12,6 +12,10 @@ case $program in
 esac
 CC=${CC:-cc}
 export CC
+if ! command -v "$CC" > /dev/null; then
+	echo "$0: there is no C compiler $CC, so nothing is built; CC names another one" >&2
+	exit 1
+fi
 work=$(mktemp -d)
 trap 'rm -rf "$work"' EXIT
 source=$work/tree/examples/build

@@ -121,9 +121,14 @@ def differences(folder):
 
 
 def compilers():
+    """The compilers that are tried; where there is none, that is told, and nothing goes on."""
     if os.environ.get("CC"):
-        return [os.environ["CC"]]
-    return [one for one in ("gcc", "clang", "g++", "clang++") if shutil.which(one)] or ["cc"]
+        names = [os.environ["CC"]]
+    else:
+        names = [one for one in ("gcc", "clang", "g++", "clang++") if shutil.which(one)] or ["cc"]
+    if not shutil.which(names[0]):
+        sys.exit("line_table.py: there is no C compiler %s, so nothing is compiled; CC names another one" % names[0])
+    return names
 
 
 def main():

@@ -15,6 +15,10 @@ compiler=${CC:-cc}
 formats=${FORMATS:-2 3}
 options="-std=c99 -Wall -Wextra -Werror -Wno-unused-label -Wno-unused-variable -Wno-unused-but-set-variable"
 strict='-Wall -Wextra -Werror -pedantic'
+if ! command -v "$compiler" > /dev/null; then
+	echo "$0: there is no C compiler $compiler, so nothing is compiled; CC names another one" >&2
+	exit 1
+fi
 work=$(mktemp -d)
 trap 'rm -rf "$work"' EXIT
 

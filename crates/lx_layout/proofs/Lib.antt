@@ -1,3 +1,4 @@
+pub mod Elements
 pub mod Operations
 pub mod Runs
 pub mod BlockLayouts

@@ -5,6 +5,5 @@ pub mod EndingLoops
 pub mod FirstPlaces
 pub mod NotedPlaces
 pub mod RuleBlocks
-pub mod RuleEndings
 pub mod RuleEnds
 pub mod SwitchCases

@@ -19,19 +19,15 @@ ghost use Rattle.lx_ccode.specs.declared.piece.Mode.{Mode};
 ghost use Rattle.lx_ccode.specs.declared.piece.Piece.{Piece};
 ghost use Rattle.lx_ccode.specs.declared.piece.Stmt.{Stmt};
 ghost use Rattle.lx_ccode.specs.declared.piece.Stmt.TheVariants.{Peek};
-ghost use Rattle.lx_regex.specs.Limits.{HaveDifferentNumbers, IsWithinLimits};
 ghost use Rattle.lx_regex.specs.Order.{Policy};
-ghost use Rattle.lx_regex.specs.Pattern.{Pattern, end_rule, patterns_of, with_terms};
-ghost use Rattle.lx_regex.specs.declared.rules.Rule.{Rule};
+ghost use Rattle.lx_regex.specs.Pattern.{Pattern, end_rule};
 ghost use Rattle.lx_tdfa.specs.Promise.{IsAutoUnder};
 ghost use Rattle.lx_layout.specs.Carries.{Carries, EndsAs, HasEdge, IsReached, IsUnitOf, LeadsTo, NamesItsOwn, StandsAs, StopsBehind};
 ghost use Rattle.lx_layout.specs.Endings.{Ending};
 ghost use Rattle.lx_layout.specs.Halting.{AreHalting, Halting};
 ghost use Rattle.lx_auto.specs.Shapes.{AreAgreed};
 ghost use Rattle.lx_layout.specs.Layout.{StandsFrom, class_block, numbered};
-ghost use Rattle.lx_layout.specs.Right.{AreEndsOf, IsSetBy};
 ghost use Rattle.lx_layout.specs.RightInMode.{HaveEndings, IsRightInMode, IsSupplied};
-ghost use Rattle.lx_layout.specs.Rules.{AreSimple, endings_of};
 ghost use Rattle.lx_layout.specs.Starts.{machine_with, run_with};
 ghost use Rattle.lx_layout.specs.Supplied as supplied;
 ghost use Rattle.lx_layout.specs.SuppliedLayout as layouts;
@@ -156,19 +152,6 @@ pub fn tests_of_a_unit_are_few()
     ensures ways { (first end : ℕ) (split : Split) (tree : TestTree (Option ℕ)) → IsTreeOf split tree
         → (depth (numbered first end tree) ≡ depth tree)
         × ((sets : (set unit : ℕ) → Bool) (unit : ℕ) → picked sets (numbered first end tree) unit ≡ class_block first end (split_class split unit)) }
-{}
-
-/// Rules of which none is `$` have the ends that the law of layouts asks for, whatever their actions are: where they are within the
-/// limits of a scanner, where none has a trailing context, and where their numbers differ and each tree of a rule with a trailing
-/// context sets its tag.
-pub fn rules_have_ends()
-    ensures limited { (enc : Enc) (rules : List Rule) (texts : List (List ℕ)) → IsWithinLimits rules
-        → end_rule (patterns_of rules) ≡ None → AreEndsOf enc (patterns_of rules) (endings_of rules texts) }
-    ensures simple { (enc : Enc) (rules : List Rule) (texts : List (List ℕ)) → AreSimple rules
-        → AreEndsOf enc (patterns_of rules) (endings_of rules texts) }
-    ensures contexts { (enc : Enc) (rules : List Rule) (texts : List (List ℕ)) → HaveDifferentNumbers rules
-        → All (λ (pattern : Pattern). IsSetBy enc pattern pattern.slash) (with_terms (patterns_of rules))
-        → end_rule (patterns_of rules) ≡ None → AreEndsOf enc (patterns_of rules) (endings_of rules texts) }
 {}
 
 /// In a piece that carries an automaton the machine goes as a run of the automaton goes, where the stream has the units for which the

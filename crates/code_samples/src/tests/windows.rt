@@ -247,42 +247,96 @@ fn is_spent_by(
     true
 }
 
-/// Whether a refill that fails spends a fresh lexer: the window has two units then, and the cursor stands behind these.
-fn is_failed(lexer: &mut Lexer<'_>) -> bool
+/// Moves the token of a window to an offset that it has.
+fn begin(w: &mut Window<'_>, at: u64)
+    ensures { w.new.unit ≡ w.old.unit }
+{
+    if w.start() <= at && at <= w.limit() && at <= 8 {
+        w.begin(at);
+    }
+}
+
+/// Makes so many matches, one behind another; whether each ends by a rule.
+fn end_by_rules(
+    lexer: &mut Lexer<'_>,
+    w: &mut Window<'_>,
+    src: &mut Failing,
+    matches: usize,
+) -> bool
+    requires unit { w.old.unit ≡ 1 }
+    requires piece { lexer.old.piece.unit ≡ 1 }
+    requires over { lexer.old.left ≡ None }
+    ensures unit { w.new.unit ≡ 1 }
+    ensures piece { lexer.new.piece ≡ lexer.old.piece }
+    ensures start { IfSome lexer.new.left (λ left. w.new.start ≡ lexer.new.start) }
+{
+    for _ in 0..matches {
+        let Outcome::Rule { .. } = told(lexer, w, src) else {
+            return false;
+        };
+        begin(w, lexer.cursor());
+    }
+    true
+}
+
+/// Of the input `abcd e`, which comes a unit at a time: behind how many refills one fails, how many matches end before, and where the
+/// cursor stands then. The last one would answer that there are no more units.
+const FAILURES: [(usize, usize, u64); 7] = [
+    (0, 0, 0),
+    (1, 0, 1),
+    (2, 0, 2),
+    (3, 0, 3),
+    (4, 0, 4),
+    (5, 2, 5),
+    (6, 2, 6),
+];
+
+/// Whether the refill behind so many spends a fresh lexer, as it fails: so many matches end before, and the cursor stands there.
+fn is_failed(lexer: &mut Lexer<'_>, refills: usize, matches: usize, cursor: u64) -> bool
     requires unit { lexer.old.piece.unit ≡ 1 }
     requires over { lexer.old.left ≡ None }
 {
-    let mut buffer = [0; 4];
+    let mut buffer = [0; 8];
     let mut w = Window::over(&mut buffer, 1, 0);
-    fill(&mut w, &mut MemRefill::over(b"ab", 1, 1, false), 2);
+    fill(
+        &mut w,
+        &mut MemRefill::over(b"abcd e", 1, 1, false),
+        refills,
+    );
     let mut src = Failing { faults: 0 };
-    let is_spent = is_spent_by(lexer, &mut w, &mut src, Outcome::ReadFailed);
-    let (cursor, limit) = (lexer.cursor(), w.limit());
-    is_spent && cursor == 2 && limit == 2 && src.faults == 1
+    let is_spent = end_by_rules(lexer, &mut w, &mut src, matches)
+        && is_spent_by(lexer, &mut w, &mut src, Outcome::ReadFailed);
+    let (at, limit) = (lexer.cursor(), w.limit());
+    is_spent && at == cursor && limit == refills as u64 && src.faults == 1
 }
 
 /// The same of the lexer of a piece.
-fn fails_once(alloc: Global, piece: &Piece) -> bool
+fn fails_once(alloc: Global, piece: &Piece, refills: usize, matches: usize, cursor: u64) -> bool
     requires valid { IsValid piece.now }
     requires unit { piece.now.unit ≡ 1 }
 {
     match Lexer::load(alloc, piece) {
-        Ok(mut lexer) => is_failed(&mut lexer),
+        Ok(mut lexer) => is_failed(&mut lexer, refills, matches, cursor),
         Err(_) => false,
     }
 }
 
 /// The same of the piece of `WORDS`.
-fn words_fail_once(alloc: Global) -> bool {
+fn words_fail_once(alloc: Global, refills: usize, matches: usize, cursor: u64) -> bool {
     match piece_of(alloc, WORDS) {
-        Some(piece) => fails_once(alloc, &piece),
+        Some(piece) => fails_once(alloc, &piece, refills, matches, cursor),
         None => false,
     }
 }
 
 #[test]
 fn a_failed_refill_spends_a_lexer(rt: HostRuntime) {
-    assert!(rt; words_fail_once(rt.alloc()));
+    for (refills, matches, cursor) in FAILURES {
+        assert!(rt;
+            words_fail_once(rt.alloc(), refills, matches, cursor),
+            "{refills}"
+        );
+    }
 }
 
 /// The front of a piece with a state, a tag and a check.

@@ -19,8 +19,8 @@ use Rattle.lx_layout.specs.declared.demands.PartInput.{PartInput}
 use Rattle.lx_layout.specs.declared.pieces.ScannerInput.{ScannerInput}
 use Rattle.lx_layout.specs.declared.rule_ends.RuleEnd.{RuleEnd}
 use Rattle.lx_layout.proofs.Laying.PartsBehind.{accepts_told, end_told}
-use Rattle.lx_layout.proofs.Rules.RuleEndings.{each-All}
 use Rattle.lx_renumber.specs.Renumbered.{based, renumbered, renumbered_state}
+use Rattle.lx_layout.proofs.Elements.{each-All}
 
 -- ---- a front for each scanner that is like the first one
 

@@ -21,8 +21,8 @@ use Rattle.lx_layout.specs.RuleEnds.{HasEnd, HasToldEnd, end_place, endings_of}
 use Rattle.lx_layout.specs.Writable.{CanBeWritten}
 use Rattle.lx_layout.specs.declared.pieces.ScannerInput.{ScannerInput}
 use Rattle.lx_layout.specs.declared.rule_ends.RuleEnd.{RuleEnd}
+use Rattle.lx_layout.proofs.Elements.{each-All}
 use Rattle.lx_layout.proofs.Rules.EndPlaces.{end_place-none}
-use Rattle.lx_layout.proofs.Rules.RuleEndings.{each-All}
 
 -- ---- one part more
 

@@ -17,6 +17,7 @@ use Rattle.lx_dispatch.specs.TestTrees.{Asked, HasEnd, HasWay, TestTree, among, 
 use Rattle.lx_dispatch.specs.TransitionClasses.{Split, Stretch, before, edge_split, first_class, same_place, split_of, stretches, class_place, transition_classes}
 use Rattle.lx_dispatch.specs.UnitApart.{apart_from, reader_split, stretch_behind, unit_last, unit_then, units_before, with_test}
 use Rattle.lx_dispatch.proofs.SplitTrees.{each-tests}
+use Rattle.lx_layout.proofs.Elements.{each-All}
 use Rattle.lx_layout.proofs.PartLayouts.ReaderBlocks.{EachUnit}
 
 -- ---- the tests of edges
@@ -144,10 +145,6 @@ tree_short table eof greatest edges tree is_table within short units =
 
 -- ---- all that reads
 
-each_of_all : {A : Type 0} (P : A → Type 0) (xs : List A) → All P xs → AllByRecursion P xs
-each_of_all P [] h = tt
-each_of_all P (x ∷ xs) h = (h 0 x (omega arith), each_of_all P xs (λ k d lt. h (suc k) d (omega (arith, lt))))
-
 module _ (format : Format) (table : List ℕ) (is_table : IsTable table) (greatest : ℕ) (eof : Option ℕ) (trees : Reader → TestTree (Option ℕ)) (short : IsShort greatest) (eof_short : IfSome eof IsShort) where
   abbrev AreUnits : List Edge → Type 0
   AreUnits edges = All (λ (edge : Edge). edge.hi ≤ greatest) edges
@@ -160,7 +157,7 @@ module _ (format : Format) (table : List ℕ) (is_table : IsTable table) (greate
       let e : number ≡ number + 0 = omega arith in
       subst (λ n. EachUnit IsShortAsked (trees (state n))) e
       (tree_short table eof greatest given.edges (trees (state number)) is_table picked.0.within eof_short
-      (edges_short greatest 0 given.edges short are.0.apart (each_of_all (λ (edge : Edge). edge.hi ≤ greatest) given.edges units.0)))
+      (edges_short greatest 0 given.edges short are.0.apart (each-All (λ (edge : Edge). edge.hi ≤ greatest) given.edges units.0)))
   states_short regs mregs count number (given ∷ states) are units picked (suc k) lt =
       let e : suc number + k ≡ number + suc k = omega arith in
       subst (λ n. EachUnit IsShortAsked (trees (state n))) e
@@ -170,7 +167,7 @@ module _ (format : Format) (table : List ℕ) (is_table : IsTable table) (greate
       → AllByRecursion (λ (given : State). AreUnits given.edges) states → EdgesShort (state_of states 0).edges
   first_short regs mregs count [] are units = tt
   first_short regs mregs count (given ∷ states) are units =
-      edges_short greatest 0 given.edges short are.0.apart (each_of_all (λ (edge : Edge). edge.hi ≤ greatest) given.edges units.0)
+      edges_short greatest 0 given.edges short are.0.apart (each-All (λ (edge : Edge). edge.hi ≤ greatest) given.edges units.0)
 
 module _ (greatest : ℕ) (part : Part) (short : IsShort greatest) (eof_short : IfSome part.given.demand.eof IsShort) (formed : IsFormed greatest part) where
   pub tests_short : (number : ℕ) → number < length part.given.auto.states → EachUnit IsShortAsked (part.trees (state number))
@@ -179,7 +176,7 @@ module _ (greatest : ℕ) (part : Part) (short : IsShort greatest) (eof_short : 
       subst (λ n. EachUnit IsShortAsked (part.trees (state n))) e
       (states_short part.given.demand.format part.given.demand.table formed.table greatest part.given.demand.eof part.trees short eof_short part.given.auto.regs part.given.auto.mregs (length part.given.auto.states) 0
       part.given.auto.states formed.auto.states
-      (each_of_all (λ (given : State). All (λ (edge : Edge). edge.hi ≤ greatest) given.edges) part.given.auto.states formed.units)
+      (each-All (λ (given : State). All (λ (edge : Edge). edge.hi ≤ greatest) given.edges) part.given.auto.states formed.units)
       formed.chosen.trees.states number lt)
 
   pub entry_short : EachUnit IsShortAsked (part.trees entry)
@@ -188,4 +185,4 @@ module _ (greatest : ℕ) (part : Part) (short : IsShort greatest) (eof_short : 
       formed.chosen.trees.entry.within eof_short
       (first_short part.given.demand.format part.given.demand.table formed.table greatest part.given.demand.eof part.trees short eof_short part.given.auto.regs part.given.auto.mregs (length part.given.auto.states)
       part.given.auto.states formed.auto.states
-      (each_of_all (λ (given : State). All (λ (edge : Edge). edge.hi ≤ greatest) given.edges) part.given.auto.states formed.units))
+      (each-All (λ (given : State). All (λ (edge : Edge). edge.hi ≤ greatest) given.edges) part.given.auto.states formed.units))

@@ -6,7 +6,7 @@ A scanner has up to three conditions, with and without a rule for any unit, whos
 contexts, or groups under either order. It is made in one of the four modes, with refills of a few units, with stored states or without,
 through pointers or by primitives, in one of the five encodings. Each runs over some inputs, among them the empty one.
 
-Usage: tests/c/random.py [COUNT [SEED]], from anywhere; COUNT scanners (100 where it is left out), the first of them made from SEED (1).
+Usage: tests/c/scanners.py [COUNT [SEED]], from anywhere; COUNT scanners (100 where it is left out), the first of them made from SEED (1).
 RE2C names the program (bin/re2c where it is unset), and CC a compiler; where it is unset gcc and clang are both tried, and for format 3 g++ and
 clang++, and cc where none is there. FORMATS names the formats, 2 and 3 where it is unset. One scanner in ten is compiled with the sanitizers of
 addresses and of undefined behaviour, where the compiler has them. Outputs of format 3 are compiled with all warnings, also with lines of the
@@ -323,9 +323,14 @@ def formats():
 
 
 def compilers():
+    """The compilers that are tried; where there is none, that is told, and nothing goes on."""
     if os.environ.get("CC"):
-        return [os.environ["CC"]]
-    return [one for one in ("gcc", "clang", "g++", "clang++") if shutil.which(one)] or ["cc"]
+        names = [os.environ["CC"]]
+    else:
+        names = [one for one in ("gcc", "clang", "g++", "clang++") if shutil.which(one)] or ["cc"]
+    if not shutil.which(names[0]):
+        sys.exit("scanners.py: there is no C compiler %s, so nothing is compiled; CC names another one" % names[0])
+    return names
 
 
 def main():
@@ -341,7 +346,7 @@ def main():
         except (RuntimeError, subprocess.TimeoutExpired) as error:
             differs = str(error)
         if differs:
-            print("random.py: scanner %d differs (in %s): %s" % (number, folder, differs))
+            print("scanners.py: scanner %d differs (in %s): %s" % (number, folder, differs))
             return 1
     shutil.rmtree(folder)
     print("%d scanners, %d of them refused, %d lines by %s, none differs"
