@@ -11,7 +11,7 @@ use Rattle.lx_window.specs.declared.refills.Fill.{Fill}
 use Rattle.lx_step.specs.declared.answers.Outcome.{Outcome}
 use Rattle.lx_step.specs.declared.answers.Outcome.TheVariants.{NeedFill, ReadFailed, Memory}
 use Rattle.lx_step.specs.declared.answers.StmtAt.{StmtAt}
-use Rattle.lx_step.specs.Advances.{Behind, EndsAs, Holds, HoldsAfter, IsAdvance, IsLeft, LeavesMatch}
+use Rattle.lx_step.specs.Advances.{Behind, EndsAs, HoldsAfter, IsAdvance, IsLeft, LeavesMatch}
 use Rattle.lx_step.specs.Entries.{entry_by, entry_point}
 use Rattle.lx_step.specs.Feeds.{Feed}
 use Rattle.lx_step.specs.Given.{Given, after_value, after_values}
@@ -60,11 +60,6 @@ Behind-end : (told : Outcome) (feed after : Feed) → IsEnd told → Behind told
 Behind-end NeedFill feed after end behind = absurd end
 Behind-end ReadFailed feed after end behind = absurd end
 Behind-end told feed after end behind = behind
-
-Holds-end : (told : Outcome) (old new : Held) (start : ℕ) (point : Point) (last : Machine) → IsEnd told
-    → Holds told old new start point last → HoldsAfter old new start told point last
-Holds-end Memory old new start point last end holds = absurd end
-Holds-end told old new start point last end holds = holds
 
 LeavesMatch-end : (told : Outcome) (new : Held) (point : Point) → IsEnd told → LeavesMatch told new point → new.left ≡ None
 LeavesMatch-end NeedFill new point end leaves = absurd end
@@ -253,8 +248,7 @@ module _ (piece : Piece) (reading : Reading) (leaves : Bool) (between : Between)
 
     held_behind-ended : new ≡ held_behind between.held between.start match_end
     held_behind-ended =
-        let holds : HoldsAfter held new before.window.start told call.point call.last =
-        Holds-end told held new before.window.start call.point call.last end call.holds in
+        let holds : HoldsAfter held new before.window.start told call.point call.last = call.holds in
         let names : tag_names between.held.piece.blocks ≡ tag_names piece.blocks =
         ap (λ (one : Piece). tag_names one.blocks) way.piece_is in
         Held-is new between.held.piece (is_last told) between.start call.last.cursor call.last.cond

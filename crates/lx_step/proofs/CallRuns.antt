@@ -15,7 +15,7 @@ use Rattle.lx_window.specs.Windows.{IsFedBy, IsFormed, IsWindowOf}
 use Rattle.lx_window.specs.WindowView.{WindowView}
 use Rattle.lx_step.specs.declared.answers.Outcome.{Outcome}
 use Rattle.lx_step.specs.declared.answers.Outcome.TheVariants as outcome
-use Rattle.lx_step.specs.Advances.{ComesBack, EndsAs, Holds, HoldsAfter, IsAdvance, StoresLeft}
+use Rattle.lx_step.specs.Advances.{ComesBack, EndsAs, HoldsAfter, IsAdvance, StoresLeft}
 use Rattle.lx_step.specs.Calls.{AreCalls, EndsAsRun, GoesOn, IsEnd, ends, leaves, refill_between, schedule_of, undropped}
 use Rattle.lx_step.specs.Entries.{entry_by, machine_back}
 use Rattle.lx_step.specs.Feeds.{Feed}
@@ -34,18 +34,7 @@ after_values-both : (names : List (List ℕ)) (first second : List Value) (given
 after_values-both names [] second given = refl
 after_values-both names (value ∷ first) second given = after_values-both names first second (after_value names value given)
 
--- what is held behind a call that ended the match
-Holds-end : (told : Outcome) (old new : Held) (start : ℕ) (point : Point) (last : Machine) → IsEnd told → Holds told old new start point last → HoldsAfter old new start told point last
-Holds-end outcome.Memory old new start point last end holds = absurd end
-Holds-end (outcome.Rule number) old new start point last end holds = holds
-Holds-end (outcome.Jump number) old new start point last end holds = holds
-Holds-end outcome.NoRule old new start point last end holds = holds
-Holds-end outcome.End old new start point last end holds = holds
-Holds-end outcome.Stuck old new start point last end holds = holds
-Holds-end outcome.Loop old new start point last end holds = holds
-Holds-end _ old new start point last end holds = absurd end
-
--- no match is under way behind it
+-- no match is under way behind a call that ended one
 none-left : (told : Outcome) (old new : Held) (start : ℕ) (point : Point) (last : Machine) → IsEnd told → HoldsAfter old new start told point last → new.left ≡ None
 none-left outcome.NeedFill old new start point last end holds = absurd end
 none-left _ old new start point last end holds = holds.left
@@ -98,7 +87,7 @@ module _ (stream : List ℕ) (told : Outcome) (new : Held) (piece : Piece) (star
       let still : after ≡ call.feed = Behind-end told call.feed after end call.behind in
       let holds : IsWindowOf stream after.window = subst (λ (feed : Feed). IsWindowOf stream feed.window) (sym still) (IsFedBy-fed stream call.fed formed fed).0.holds in
       let does : Does old before before.window.size call.answers told call.point call.used call.last = does-call old new before after told same starts call holds in
-      let held : HoldsAfter old new before.window.start told call.point call.last = Holds-end told old new before.window.start call.point call.last end call.holds in
+      let held : HoldsAfter old new before.window.start told call.point call.last = call.holds in
       record {
         last = call.last;
         runs = subst (λ answers. EndsFrom piece stream start (entry_of old before).steps (entry_of old before).code (behind front (entry_of old before).machine) answers (ended (outcome_of told) (behind front call.last)))

@@ -35,7 +35,7 @@ use Rattle.lx_step.specs.Places.{StandsAt, place_of}
 use Rattle.lx_step.specs.Points.{AreAsked, Asks, IsAsking, LeadsTo, Makes, Point, StandsBefore, goes_to, kept_by, limited, makes, stays, waits}
 use Rattle.lx_step.specs.Steps.{given_after, machine_of, next_of, outcome_of, values_after, IsAnswer}
 use Rattle.lx_step.specs.Tags.{tag_names}
-use Rattle.lx_step.specs.Ways.{Comes, CountsOn, HasStopped, IsOnWay, IsNearer, IsPassed, KeepsPlaces, Nears, point_of}
+use Rattle.lx_step.specs.Ways.{Comes, CountsOn, HasStopped, IsOnWay, IsNearer, IsPassed, Nears, point_of}
 use Rattle.lx_step.proofs.AskedSteps.{Refills-limit}
 use Rattle.lx_step.proofs.FedWindows.{IsFed-append, IsFed-none, IsWindowOf-fed}
 use Rattle.lx_step.proofs.FilledWindows.{IsWindowOf-before, slid-slid, some_stream}
@@ -93,10 +93,6 @@ CountsOn-answer : (told : Outcome) (steps : ℕ) (point : Point) → IsAnswer to
 CountsOn-answer outcome.NeedFill steps point answer = absurd answer
 CountsOn-answer _ steps point answer = tt
 
-KeepsPlaces-same : (told : Outcome) (assigned : List StmtAt) (point : Point) → assigned ≡ point.assigned → KeepsPlaces told assigned point
-KeepsPlaces-same outcome.Memory assigned point same = tt
-KeepsPlaces-same _ assigned point same = same
-
 module _ (piece : Piece) (entry : Point) (before feed : Feed) (first given : Given) (at : Position) (old : Scanner) (steps : ℕ) (assigned : List StmtAt) where
   -- it has not looped
   abbrev IsUnlooped : Type 0
@@ -148,10 +144,10 @@ module _ (piece : Piece) (entry : Point) (before feed : Feed) (first given : Giv
     stands-here values stands unlooped stream = record { code = code-split piece at statement stands; unlooped = unlooped }
 
     -- memory ran out
-    pub stops-without_memory : (after : Feed) (new : Scanner) (more : Given) (others : List StmtAt) → IsOnWay piece entry before first at old given steps assigned feed
-        → StandsAt piece.blocks at statement → IsUnlooped → after ≡ feed → more ≡ given → is_on_histories statement ≡ true
-        → HasStopped piece entry before after first outcome.Memory new more steps others
-    stops-without_memory after new more others way stands unlooped same kept histories = record {
+    pub stops-without_memory : (after : Feed) (new : Scanner) (more : Given) → IsOnWay piece entry before first at old given steps assigned feed
+        → StandsAt piece.blocks at statement → IsUnlooped → after ≡ feed → more ≡ given → new ≡ old → is_on_histories statement ≡ true
+        → HasStopped piece entry before after first outcome.Memory new more steps assigned
+    stops-without_memory after new more way stands unlooped same kept still histories = record {
       answers = way.answers;
       used = [];
       values = way.values;
@@ -161,11 +157,18 @@ module _ (piece : Piece) (entry : Point) (before feed : Feed) (first given : Giv
       behind = same;
       leads = λ stream is. (
         way.leads stream (subst (λ (one : Feed). IsWindowOf stream (slid one.window)) same is),
-        record { statement = statement; rest = rest; stands = stands-here way.values stands unlooped stream; on_histories = histories; used_none = refl },
+        record {
+          statement = statement;
+          rest = rest;
+          stands = stands-here way.values stands unlooped stream;
+          on_histories = histories;
+          used_none = refl;
+          stays = ap (λ scanner. machine_of piece.conds scanner way.values) still;
+        },
       );
       kept = kept ∙ way.kept;
       counts = tt;
-      places = tt;
+      places = refl;
     }
 
     -- the source left the scanner, or failed
@@ -359,10 +362,10 @@ module _ (piece : Piece) (entry : Point) (before feed : Feed) (first given : Giv
         );
         kept = keeps-more;
         counts = CountsOn-answer told steps' here (answer-here going told goes to);
-        places = KeepsPlaces-same told others here
-            (let some : (stream : List ℕ) × IsWindowOf stream (slid after.window) = some_stream after.window formed in
+        places =
+            let some : (stream : List ℕ) × IsWindowOf stream (slid after.window) = some_stream after.window formed in
             notes ∙ with_statement-last piece some.0 (place_of at) statement rest (machine_of piece.conds old way.values) goes.used (outcome_of told) (machine_of piece.conds new values-here) assigned
-            (last-here going told goes formed to some.0 some.1).step);
+            (last-here going told goes formed to some.0 some.1).step;
       }
 
       -- ---- all of it
@@ -446,7 +449,7 @@ stops-nowhere piece entry feed at scanner given steps statements assigned told i
       count = ap (loop_count piece feed.window.start) limit
 
       stopped : (one : Outcome) → ((stream : List ℕ) → EndsAs piece stream feed.window.start feed.window.size one entry [] (machine_of piece.conds scanner [])) → Behind one feed feed → CountsOn one steps entry
-          → KeepsPlaces one assigned entry → HasStopped piece entry feed feed given one scanner given steps assigned
+          → assigned ≡ entry.assigned → HasStopped piece entry feed feed given one scanner given steps assigned
       stopped one ends_so behind counts places = record {
         answers = [];
         used = [];

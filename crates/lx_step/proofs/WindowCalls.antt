@@ -10,7 +10,7 @@ use Rattle.lx_step.specs.declared.answers.Outcome.TheVariants as outcome
 use Rattle.lx_step.specs.declared.answers.StmtAt.{StmtAt}
 use Rattle.lx_step.specs.declared.numbers.Sort.TheVariants.{Register}
 use Rattle.lx_step.specs.declared.scanner.Scanner.{Scanner}
-use Rattle.lx_step.specs.Advances.{Holds, IsAdvance, StoresLeft}
+use Rattle.lx_step.specs.Advances.{HoldsAfter, IsAdvance, StoresLeft}
 use Rattle.lx_step.specs.Entries.{entry_by, machine_back}
 use Rattle.lx_step.specs.Feeds.{Feed}
 use Rattle.lx_step.specs.Given.{Given}
@@ -85,8 +85,7 @@ module _ (piece : Piece) (spent : Bool) (start first_steps : ℕ) (first : Scann
         })
 
   holds : (told : Outcome) → (stopped : HasStopped piece entry before after before_given told scanner given steps assigned)
-      → Holds told old (new told) before.window.start stopped.point (machine_of piece.conds scanner stopped.values)
-  holds outcome.Memory stopped = refl
+      → HoldsAfter old (new told) before.window.start told stopped.point (machine_of piece.conds scanner stopped.values)
   holds outcome.NeedFill stopped = record { start_is = refl; cursor = refl; cond = refl; given = stopped.kept; assigned = stopped.places; left = stores-left stopped }
   holds _ stopped = record { start_is = refl; cursor = refl; cond = refl; given = stopped.kept; assigned = stopped.places; left = refl }
 

@@ -61,13 +61,14 @@ module _ (piece : Piece) (stream : List ℕ) (start size : ℕ) where
     pub used_none : used ≡ []
     pub stays : last ≡ point.machine
 
-  -- memory ran out at a statement on histories
-  pub record LacksMemory (point : Point) (used : List Answer) : Type 0 where
+  -- memory ran out at a statement on histories, which was not made
+  pub record LacksMemory (point : Point) (used : List Answer) (last : Machine) : Type 0 where
     pub statement : Stmt
     pub rest : List Stmt
     pub stands : StandsBefore piece stream start size point statement rest
     pub on_histories : is_on_histories statement ≡ true
     pub used_none : used ≡ []
+    pub stays : last ≡ point.machine
 
   -- from this point the call ends so, with these last answers, and with the machine in the end
   abbrev pub EndsAs : Outcome → Point → (used : List Answer) → Machine → Type 0
@@ -77,7 +78,7 @@ module _ (piece : Piece) (stream : List ℕ) (start size : ℕ) where
   EndsAs Stuck point used last = IsLastStep point Stuck used last ⊎ HasNoCode point used last
   EndsAs Loop point used last = IsLooped point used last
   EndsAs Spent point used last = ⊥
-  EndsAs Memory point used last = LacksMemory point used
+  EndsAs Memory point used last = LacksMemory point used last
   EndsAs told point used last = IsLastStep point told used last
 
 -- what the source did last: it left the scanner, or it failed and the window only slid
@@ -111,10 +112,6 @@ pub record HoldsAfter (old new : Held) (start : ℕ) (told : Outcome) (point : P
   pub assigned : new.assigned ≡ point.assigned
   pub left : LeavesMatch told new point
 
-abbrev pub Holds : Outcome → (old new : Held) → (start : ℕ) → Point → Machine → Type 0
-Holds Memory old new start point last = new.left ≡ None
-Holds told old new start point last = HoldsAfter old new start told point last
-
 -- A call on a lexer that is not spent: answers that the source gave in order lead from where it began to a point, and to an end there. The
 -- stream is any of which the window after the call is a window.
 pub record IsAdvance (old new : Held) (before after : Feed) (told : Outcome) : Type 0 where
@@ -130,4 +127,4 @@ pub record IsAdvance (old new : Held) (before after : Feed) (told : Outcome) : T
       × EndsAs old.piece stream before.window.start before.window.size told point used last
   pub piece : new.piece ≡ old.piece
   pub spent : new.spent ≡ is_last told
-  pub holds : Holds told old new before.window.start point last
+  pub holds : HoldsAfter old new before.window.start told point last

@@ -65,11 +65,6 @@ abbrev pub CountsOn : Outcome → (steps : ℕ) → Point → Type 0
 CountsOn outcome.NeedFill steps point = steps ≡ suc point.steps
 CountsOn _ steps point = Unit {0}
 
--- the places are those of the point, unless memory ran out
-abbrev pub KeepsPlaces : Outcome → (assigned : List StmtAt) → Point → Type 0
-KeepsPlaces outcome.Memory assigned point = Unit {0}
-KeepsPlaces _ assigned point = assigned ≡ point.assigned
-
 -- it came to an end
 pub record HasStopped (piece : Piece) (entry : Point) (before after : Feed) (old : Given) (told : Outcome) (scanner : Scanner) (given : Given) (steps : ℕ) (assigned : List StmtAt) : Type 0 where
   pub answers : List Answer
@@ -84,7 +79,7 @@ pub record HasStopped (piece : Piece) (entry : Point) (before after : Feed) (old
       × EndsAs piece stream before.window.start before.window.size told point used (machine_of piece.conds scanner values)
   pub kept : given ≡ after_values (tag_names piece.blocks) values old
   pub counts : CountsOn told steps point
-  pub places : KeepsPlaces told assigned point
+  pub places : assigned ≡ point.assigned
 
 -- the scanner behind a call that told this: only one that was left stores its state
 abbrev pub left_by : Outcome → Scanner → Scanner

@@ -148,6 +148,7 @@ pub(crate) fn make<S: Refill>(
     ensures cond { IsCond names.entry.piece.now.conds scanner.old.cond → IsCond names.entry.piece.now.conds scanner.new.cond }
     ensures lengths { KeepsLengths slots.old slots.new }
     ensures kept { OnErr result (slots.new ≡ slots.old) }
+    ensures stays { OnErr result (scanner.new ≡ scanner.old) }
     ensures memory { OnErr result (is_on_histories stmt.now ≡ true) }
     ensures formed { IsFormed w.new }
     ensures start_kept { KeepsStart w.old w.new }

@@ -26,7 +26,7 @@ pub enum Outcome {
     Loop,
     /// The lexer was spent before, and did nothing.
     Spent,
-    /// Memory ran out at a statement on histories: the lexer is spent.
+    /// Memory ran out at a statement on histories, which was not made: the lexer is spent.
     Memory,
 }
 

@@ -168,12 +168,12 @@ impl<'p> Program<'p> {
         let Some(stmt) = statement_at(at.code, at.stmt) else {
             return Ok(Passed::Ends(Outcome::Stuck));
         };
-        note(self.piece, assigned, at, stmt);
         let names = Names {
             piece: self.piece,
             tags,
         };
         let made = make(self.alloc, names, stmt, w, src, scanner, slots)?;
+        note(self.piece, assigned, at, stmt);
         Ok(self.passed(at, made, steps))
     }
 

@@ -1,5 +1,5 @@
 //! Histories: lists that grow at their ends, and are copied in constant time.
-ghost use Rattle.std.specs.Prelude.{◌≡◌, ℕ, ◌<◌, ◌++◌, [], ◌∷◌, List, Option, length, replicate, slice_index_or, slice_set, IfOk, OnOk};
+ghost use Rattle.std.specs.Prelude.{◌≡◌, ℕ, ◌<◌, ◌++◌, [], ◌∷◌, List, Option, length, replicate, slice_index_or, slice_set, IfOk, OnErr, OnOk};
 
 use lx_base::{Memory, Sequence};
 use std::alloc::Global;
@@ -63,6 +63,7 @@ impl Histories {
     pub(crate) fn append(&mut self, history: usize, entry: Option<u64>) -> Result<(), Memory>
         requires { history < length self.old }
         ensures appended { OnOk result (self.new ≡ slice_set self.old history (slice_index_or self.old history [] ++ entry ∷ [])) }
+        ensures kept { OnErr result (self.new ≡ self.old) }
         ensures count { length self.new ≡ length self.old }
     {
         let node = self.nodes.len();

@@ -142,7 +142,8 @@ impl<'p> Lexer<'p> {
     /// stored by then, the next call comes back to it, on the same or on another window that holds the units from the
     /// match's start on; else the match begins afresh. After `WindowFull`, `ReadFailed`, `Stuck`, `Loop` or `Memory`
     /// the lexer is spent, and each further call answers `Spent` and changes nothing. `Memory` comes only where a
-    /// statement of the piece is on histories.
+    /// statement of the piece is on histories, which was not made: the readers tell what the machine held before it, and
+    /// `assigned` has the places of what was made.
     pub fn advance<S: Refill>(&mut self, w: &mut Window<'_>, src: &mut S) -> Outcome
         requires unit { w.old.unit ≡ self.old.piece.unit }
         requires source_unit { S.unit src.old ≡ self.old.piece.unit }

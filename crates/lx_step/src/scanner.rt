@@ -1,5 +1,5 @@
 //! The machine that runs a piece, statement by statement.
-ghost use Rattle.std.specs.Prelude.{◌≡◌, ℕ, ◌+◌, ◌<◌, ◌≤◌, List, [], Option, None, length, slice_index, IfOk, if◌then◌else◌};
+ghost use Rattle.std.specs.Prelude.{◌≡◌, ℕ, ◌+◌, ◌<◌, ◌≤◌, List, [], Option, None, length, slice_index, IfOk, OnErr, if◌then◌else◌};
 ghost use Rattle.lx_ccode.specs.declared.piece.CondCase.{CondCase};
 ghost use Rattle.lx_ccode.specs.declared.piece.Stmt.TheVariants as stmt;
 ghost use Rattle.lx_ccode.specs.Machine.{case_block, has_unit, is_among};
@@ -247,6 +247,7 @@ impl Scanner {
     pub(crate) fn append(&mut self, history: u32) -> Result<Going, Memory>
         requires { place_of self.old.numbering.histories.keys history < length self.old.histories }
         ensures step { IfOk result (λ going. (stream : List ℕ) (eof : Option ℕ) (table : List ℕ) (conds : List CondCase) → IsStep stream eof table conds (stmt.MSet history) self.old self.new going) }
+        ensures stays { OnErr result (self.new ≡ self.old) }
         ensures tables { KeepsTables self.old self.new }
         ensures cond { self.new.cond ≡ self.old.cond }
     {
@@ -262,6 +263,7 @@ impl Scanner {
     pub(crate) fn append_none(&mut self, history: u32) -> Result<Going, Memory>
         requires { place_of self.old.numbering.histories.keys history < length self.old.histories }
         ensures step { IfOk result (λ going. (stream : List ℕ) (eof : Option ℕ) (table : List ℕ) (conds : List CondCase) → IsStep stream eof table conds (stmt.MUnset history) self.old self.new going) }
+        ensures stays { OnErr result (self.new ≡ self.old) }
         ensures tables { KeepsTables self.old self.new }
         ensures cond { self.new.cond ≡ self.old.cond }
     {

@@ -13,6 +13,7 @@ returns-in_ok-step-in_default g c = record {
   cond = c.step.ensures.cond;
   lengths = c.step.ensures.lengths;
   kept = tt;
+  stays = tt;
   memory = tt;
   formed = c.requires.formed;
   start_kept = record { same_unit = refl; same_start = refl; same_size = refl };

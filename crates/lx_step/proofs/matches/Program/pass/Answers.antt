@@ -32,12 +32,12 @@ returns-in_err-made-clause-comes g c = λ entry before first start size way.
     let piece = c.args.self.now.piece.now in
     let feed = feed_of (g.S.Refill.ahead c.args.src.now) c.args.w.now in
     let after = feed_of (g.S.Refill.ahead c.make.new.src) c.make.new.w in
-    Comes-without_memory piece entry before after first c.from_residual.result c.make.new.scanner c.make.new.slots c.args.steps.now c.note.new.assigned.keys c.from_residual.ensures.0
-    (stops-without_memory piece entry before feed first c.args.slots.now c.args.at c.args.scanner.now c.args.steps.now c.args.assigned.now.keys c.in-Some.stmt.now after c.make.new.scanner c.make.new.slots c.note.new.assigned.keys way
+    Comes-without_memory piece entry before after first c.from_residual.result c.make.new.scanner c.make.new.slots c.args.steps.now c.args.assigned.now.keys c.from_residual.ensures.0
+    (stops-without_memory piece entry before feed first c.args.slots.now c.args.at c.args.scanner.now c.args.steps.now c.args.assigned.now.keys c.in-Some.stmt.now after c.make.new.scanner c.make.new.slots way
     (record { block = c.requires.block; stmt = sym c.in-Some.ensures })
     (subst (λ count. c.args.steps.now < count) (sym (loop_count-window piece before.window.start c.args.scanner.now.limit c.args.w.now.start c.args.w.now.limit c.args.self.now.statements start c.requires.ready.limit c.requires.program.statements))
     c.requires.unlooped)
-    c.in_err-made.ensures.still c.in_err-made.ensures.kept c.in_err-made.ensures.memory)
+    c.in_err-made.ensures.still c.in_err-made.ensures.kept c.in_err-made.ensures.stays c.in_err-made.ensures.memory)
 
 pub returns-in_err-made-clause-memory : goal.returns-in_err-made-clause-memory
 returns-in_err-made-clause-memory g c =
