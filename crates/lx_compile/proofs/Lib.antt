@@ -34,4 +34,5 @@ pub mod TargetPlaces
 pub mod UnmarkedTexts
 pub mod WalkRuns
 pub mod WarningRuns
+pub mod WarningsPlaced
 pub mod WrittenTexts

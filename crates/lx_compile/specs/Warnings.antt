@@ -1,7 +1,7 @@
 -- The warnings of a source: what the scanners are warned of, and the line that tells each.
 use Rattle.std.specs.Prelude.{◌≡◌, ℕ, Bool, true, false, List, [], ◌∷◌, ◌++◌, map, codes, Option, Some, None, if◌then◌else◌}
 use Rattle.std.specs.Fmt.{decimal}
-use Rattle.lx_base.specs.Message.{heading}
+use Rattle.lx_base.specs.Message.{HasFile, heading}
 use Rattle.lx_base.specs.Text.{joined}
 use Rattle.lx_base.specs.declared.places.Pos.{Pos}
 use Rattle.lx_base.specs.declared.settings.Options.{Options}
@@ -56,6 +56,10 @@ AreWarned options at resolved warnings = AreWarnedWhere (tells_warnings options)
 abbrev pub warnings_in : Made → List PlacedWarning
 warnings_in (Scanners piece checks warnings cover groups) = warnings
 warnings_in other = []
+
+-- the file of a warning's place stands in the list of names
+abbrev pub IsPlacedWarning : (names : List (List ℕ)) → PlacedWarning → Type 0
+IsPlacedWarning names placed = HasFile names (Some placed.at)
 
 -- those of all that is made, in order
 abbrev pub warnings_of : List Made → List PlacedWarning

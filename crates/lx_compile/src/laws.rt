@@ -1,5 +1,5 @@
 //! What holds of the faults and the outputs of all sources: each law is the contract of a function with an empty body.
-ghost use Rattle.std.specs.Prelude.{◌≡◌, ℕ, true, List, [], ◌∷◌, ◌++◌, Option, Some, IfSome};
+ghost use Rattle.std.specs.Prelude.{◌≡◌, ℕ, true, All, List, [], ◌∷◌, ◌++◌, Option, Some, IfSome};
 ghost use Rattle.lx_base.specs.Message.{IsPlaced};
 ghost use Rattle.lx_base.specs.declared.faults.Fault.{Fault};
 ghost use Rattle.lx_base.specs.declared.settings.Options.{Options};
@@ -12,6 +12,7 @@ ghost use Rattle.lx_compile.specs.Cut.{IsFound, output_parts};
 ghost use Rattle.lx_compile.specs.FirstFault.{AreMadeOf, IsFirstFault};
 ghost use Rattle.lx_compile.specs.Options.{names_output, out_name};
 ghost use Rattle.lx_compile.specs.Output.{IsOutput, last_names};
+ghost use Rattle.lx_compile.specs.Warnings.{IsPlacedWarning, told_warnings};
 ghost use Rattle.lx_compile.specs.declared.made.Made.{Made};
 
 /// At most one fault is the first one of a source of which this is made, and none is where the source has none.
@@ -30,6 +31,12 @@ pub fn sources_have_a_first_fault_or_none()
 pub fn faults_stand_in_files_that_are_met()
     ensures { (options : Options) (seen : List HeldFile) (main : List ℕ) (made : List Made) (fault : Fault) →
         IsFirstFault options seen main made (Some fault) → IsPlaced (expansion options seen main).met.names fault }
+{}
+
+/// Each warning that is told of a source stands in a file that was met: the source itself is the first of these, or an included one.
+pub fn warnings_stand_in_files_that_are_met()
+    ensures { (options : Options) (seen : List HeldFile) (main output : List ℕ) (made : List Made) → IsOutput options seen main made output →
+        All (IsPlacedWarning (expansion options seen main).met.names) (told_warnings options made) }
 {}
 
 /// A source in which no block opens has itself as output, and no other one.

@@ -1,5 +1,5 @@
 -- How a run of the program ends.
-use Rattle.std.specs.Prelude.{◌≡◌, ◌≢◌, ◌⊎◌, ℕ, Bool, List, [], codes, map, Option, Some, MatchOption, Result, Ok, Err, String, string_bytes}
+use Rattle.std.specs.Prelude.{◌≡◌, ◌≢◌, ◌≤◌, ◌⊎◌, ℕ, Bool, List, [], codes, map, Option, Some, MatchOption, Result, Ok, Err, String, string_bytes}
 use Rattle.std.specs.Global.{Vec}
 use Rattle.std.specs.IoError.{error_kind}
 use Rattle.std.specs.declared.io.error.Error.{Error}
@@ -11,13 +11,14 @@ use Rattle.lx_base.specs.declared.faults.Fault.{Fault}
 use Rattle.lx_base.specs.declared.faults.Fault.TheVariants.{Usage}
 use Rattle.lx_files.specs.Counts.{Rose}
 use Rattle.lx_files.specs.Held.{IsFront, Sees}
-use Rattle.lx_files.specs.Taking.{GivesFront, given_then}
+use Rattle.lx_files.specs.Taking.{GivesFront, RefusesPut, given_then}
 use Rattle.lx_files.specs.declared.files.HeldFile.{HeldFile}
+use Rattle.lx_files.specs.declared.sinks.PutAnswer.{PutAnswer}
 use Rattle.lx_compile.specs.declared.made.Made.{Made}
 use Rattle.lx_top.specs.Delivery.{Completes, GivesOut, BreaksOff, DeliversBefore, DeliversNothing}
 use Rattle.lx_top.specs.FirstFault.{IsFirstFault}
 use Rattle.lx_top.specs.Jobs.{file_names, is_run, job_of, options_for, target_of}
-use Rattle.lx_top.specs.Outside.{SinkView, Outside, NoCountRose}
+use Rattle.lx_top.specs.Outside.{SinkView, Outside, NoCountRose, sink_view}
 use Rattle.lx_top.specs.Output.{IsRightOf}
 use Rattle.lx_top.specs.Warnings.{lines_for}
 use Rattle.lx_top.specs.declared.endings.Ending.{Ending}
@@ -39,12 +40,19 @@ failure_text ReadFailed = codes "re2c: error: read failed\n"
 failure_text PutFailed = codes "re2c: error: write failed\n"
 failure_text OutOfMemory = codes "re2c: error: out of memory\n"
 
--- a front of a message was told, and then a front of the ending's own text
+-- A text was put whole, and no put failed; or a front of it was put, and then a put was refused: the count of failed puts rose, or memory ran out.
+abbrev pub PutsText : (text : List ℕ) → SinkView → SinkView → Type 0
+PutsText text err err' =
+    ((err'.given ≡ given_then err.given text) × (err'.faults ≡ err.faults))
+    ⊎ (GivesFront err.given err'.given text × ((refused : PutAnswer) × RefusesPut err.faults err'.faults refused))
+
+-- A front of a message was told, at which the sink had so many faults, and then the ending's own text.
 abbrev pub TellsFront : (message : List ℕ) → Ending → SinkView → SinkView → Type 0
 TellsFront message ending err err' =
-    (front : List ℕ) × IsFront front message × GivesFront (given_then err.given front) err'.given (failure_text ending)
+    (front : List ℕ) × (faults : ℕ) × IsFront front message × (err.faults ≤ faults)
+    × PutsText (failure_text ending) (sink_view (given_then err.given front) faults) err'
 
--- how a message is told: whole, or a front of it and then a front of the ending's own text
+-- how a message is told: whole, or a front of it and then the ending's own text
 abbrev pub TellsMessage : (message : List ℕ) → SinkView → SinkView → Ending → Type 0
 TellsMessage message err err' Done = ⊥
 TellsMessage message err err' Refused = err'.given ≡ given_then err.given message
@@ -52,8 +60,8 @@ TellsMessage message err err' ReadFailed = ⊥
 TellsMessage message err err' PutFailed = Rose err.faults err'.faults × TellsFront message PutFailed err err'
 TellsMessage message err err' OutOfMemory = TellsFront message OutOfMemory err err'
 
--- How the lines of warnings are told behind a job that was done: all of them, and no put failed; or, where there are some, a front of them and then a
--- front of the ending's own text.
+-- How the lines of warnings are told behind a job that was done: all of them, and no put failed; or, where there are some, a front of them and then
+-- the ending's own text.
 abbrev pub TellsLines : (lines : List ℕ) → SinkView → SinkView → Ending → Type 0
 TellsLines lines err err' Done = (err'.given ≡ given_then err.given lines) × (err'.faults ≡ err.faults)
 TellsLines lines err err' Refused = ⊥
@@ -73,22 +81,22 @@ module _ (runs : Bool) (IsFault : Option Fault → Type 0) (names : List (List �
   abbrev GivesBefore : Fault → Type 0
   GivesBefore first = DeliversBefore runs target IsRight before.files after.files before.out after.out first
 
-  -- there is a first fault, what comes before it was given, and a front of its message was told, and then a front of the ending's own text
+  -- there is a first fault, what comes before it was given, and a front of its message was told, and then the ending's own text
   pub record BreaksMessage (ending : Ending) : Type 0 where
     pub first : Fault
     pub is_first : IsFault (Some first)
     pub gave : GivesBefore first
     pub told : TellsFront (message_text names first) ending before.err after.err
 
-  -- all was done, there are warnings to tell, and a front of their lines was told, and then a front of the ending's own text
+  -- all was done, there are warnings to tell, and a front of their lines was told, and then the ending's own text
   pub record BreaksLines (ending : Ending) : Type 0 where
     pub completes : Completes IsFault target IsRight before.files after.files before.out after.out
     pub some : lines ≢ []
     pub told : TellsFront lines ending before.err after.err
 
-  -- the ending's own text was told, or a front of it
+  -- the ending's own text was told
   abbrev TellsEnding : Ending → Type 0
-  TellsEnding ending = GivesFront before.err.given after.err.given (failure_text ending)
+  TellsEnding ending = PutsText (failure_text ending) before.err after.err
 
   -- all was done, and the lines of the warnings were told, of which there are none where they are not asked for
   pub record IsDone : Type 0 where

@@ -12,8 +12,7 @@ use Rattle.lx_compile.specs.declared.made.Made.{Made}
 use Rattle.lx_top.specs.Sources.{IsSourceOutput}
 use Rattle.lx_top.specs.Delivery.{Bound, Completes, GivesOut, BreaksOff, DeliversBefore, DeliversNothing, FailsToBind, MayBeBound}
 use Rattle.lx_top.specs.Emitted.{IsUnread, place_in}
-use Rattle.lx_top.specs.Endings.{TellsMessage, failure_text}
-use Rattle.lx_files.specs.Taking.{GivesFront}
+use Rattle.lx_top.specs.Endings.{PutsText, TellsMessage, failure_text}
 use Rattle.lx_top.specs.Outside.{FilesView, SinkView}
 use Rattle.lx_top.specs.declared.endings.Ending.{Ending}
 use Rattle.lx_top.specs.declared.endings.Ending.TheVariants.{ReadFailed, PutFailed, OutOfMemory}
@@ -80,10 +79,10 @@ IsNoFile file name halt.ReadFailed = ⊥
 IsNoFile file name halt.PutFailed = ⊥
 IsNoFile file name halt.OutOfMemory = Unit {0}
 
--- a front of the text of this ending was told
+-- the text of this ending was told
 pub record TellsHalt (expected : Ending) (err err' : SinkView) (ending : Ending) : Type 0 where
   pub ending_is : ending ≡ expected
-  pub told : GivesFront err.given err'.given (failure_text expected)
+  pub told : PutsText (failure_text expected) err err'
 
 -- how a job that broke off is told
 abbrev pub Reports : List (List ℕ) → SinkView → SinkView → Halt → Ending → Type 0

@@ -1,8 +1,7 @@
 //! What the user is told where a run did not do all that it was asked to.
 ghost use Rattle.std.specs.Prelude.{◌≡◌, ◌≤◌};
 ghost use Rattle.lx_base.specs.Message.{IsPlaced, message_text};
-ghost use Rattle.lx_top.specs.Endings.{TellsMessage, failure_text};
-ghost use Rattle.lx_files.specs.Taking.{GivesFront};
+ghost use Rattle.lx_top.specs.Endings.{PutsText, TellsMessage, failure_text};
 ghost use Rattle.lx_top.specs.Outside.{sink_view};
 ghost use Rattle.lx_top.specs.Steps.{Reports, IsPlacedHalt};
 
@@ -47,9 +46,10 @@ fn tell_message<E: Sink>(text: &[u8], err: &mut E) -> Ending
     }
 }
 
+/// Tells at the standard error the text of an ending that is no refusal, if it can.
 pub(crate) fn tell_failure<E: Sink>(ending: Ending, err: &mut E) -> Ending
     ensures same { result ≡ ending }
-    ensures told { GivesFront (E.given err.old) (E.given err.new) (failure_text ending) }
+    ensures told { PutsText (failure_text ending) (sink_view (E.given err.old) (E.faults err.old)) (sink_view (E.given err.new) (E.faults err.new)) }
     ensures never_falls { E.faults err.old ≤ E.faults err.new }
 {
     let _ = put_all(err, failure_text(ending));

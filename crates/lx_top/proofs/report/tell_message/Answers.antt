@@ -1,13 +1,16 @@
+use Rattle.std.proofs.Common.{◌≤◌, arith}
 use Rattle.lx_top.specs.Outside.{sink_view}
 use Rattle.lx_top.proofs.ReportLemmas.{TellsMessage-failed, TellsMessage-out_of_memory}
 use Rattle.lx_top.proofs.report.tell_message.Goals as goal
 
 pub returns-in-Err-Failed : goal.returns-in-Err-Failed
 returns-in-Err-Failed g c =
+    let risen : g.E.Sink.faults c.args.err.now ≤ g.E.Sink.faults c.put_all.new.out = omega arith in
     TellsMessage-failed c.args.text.now _ (sink_view (g.E.Sink.given c.put_all.new.out) (g.E.Sink.faults c.put_all.new.out)) _ c.tell_failure.result c.tell_failure.ensures.same
-    (rw c.in-Err-Failed.field-0-is at c.in-Err-Failed.ensures.refuses) c.tell_failure.ensures.never_falls c.in-Err-Failed.ensures.front c.tell_failure.ensures.told
+    (rw c.in-Err-Failed.field-0-is at c.in-Err-Failed.ensures.refuses) risen c.tell_failure.ensures.never_falls c.in-Err-Failed.ensures.front c.tell_failure.ensures.told
 
 pub returns-in-Err-Memory : goal.returns-in-Err-Memory
 returns-in-Err-Memory g c =
+    let risen : g.E.Sink.faults c.args.err.now ≤ g.E.Sink.faults c.put_all.new.out = omega arith in
     TellsMessage-out_of_memory c.args.text.now _ (sink_view (g.E.Sink.given c.put_all.new.out) (g.E.Sink.faults c.put_all.new.out)) _ c.tell_failure-in-Err-Memory.result
-    c.tell_failure-in-Err-Memory.ensures.same c.in-Err-Memory.ensures.front c.tell_failure-in-Err-Memory.ensures.told
+    c.tell_failure-in-Err-Memory.ensures.same risen c.in-Err-Memory.ensures.front c.tell_failure-in-Err-Memory.ensures.told
