@@ -20,7 +20,7 @@ find_same-through auto middle given (Some standing) (Some between) None first se
 
 pub same_run-itself : (auto : Auto) → HasSameRun auto auto
 same_run-itself auto start bank empty =
-    (bank, empty, λ word. find_same-itself auto (run auto (start_with start bank) word))
+    (bank, empty, λ nothing. nothing, λ word. find_same-itself auto (run auto (start_with start bank) word))
 
 pub same_run-through : (auto middle given : Auto) → HasSameRun auto middle → HasSameRun middle given → HasSameRun auto given
 same_run-through auto middle given first second start bank empty =
@@ -28,6 +28,7 @@ same_run-through auto middle given first second start bank empty =
     let source = second start between.0 between.1 in (
       source.0,
       source.1,
+      λ nothing. source.2 (between.2 nothing),
       λ word. find_same-through auto middle given (run auto (start_with start bank) word) (run middle (start_with start between.0) word)
-          (run given (start_with start source.0) word) (between.2 word) (source.2 word),
+          (run given (start_with start source.0) word) (between.3 word) (source.3 word),
     )

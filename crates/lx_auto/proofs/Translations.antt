@@ -210,5 +210,6 @@ module _ (given answer : Auto) (names : ℕ → Names) where
     translation-same_run start bank empty = (
       source_of bank,
       ap bank.mregs is.start ∙ empty,
+      λ nothing. record { regs = λ reg. nothing.regs ((names 0).regs reg); mregs = λ mreg. nothing.mregs ((names 0).mregs mreg) },
       λ word. run-alike word first_point begins start bank (source_of bank) None None tt (holds-start bank),
     )

@@ -1,5 +1,5 @@
 -- What registers hold, and what a list of operations does to them.
-use Rattle.std.specs.Prelude.{ℕ, List, [], ◌∷◌, ◌++◌, map, Option, Some, None, nat_eq, if◌then◌else◌}
+use Rattle.std.specs.Prelude.{◌≡◌, ℕ, List, [], ◌∷◌, ◌++◌, map, Option, Some, None, nat_eq, if◌then◌else◌}
 use Rattle.lx_auto.specs.declared.automaton.Held.{Held}
 use Rattle.lx_auto.specs.declared.automaton.Held.TheVariants.{Reg, MReg}
 use Rattle.lx_auto.specs.declared.ops.Op.{Op}
@@ -13,6 +13,11 @@ pub record Bank : Type 0 where
 -- no register has an offset, and each history is empty
 abbrev pub empty_bank : Bank
 empty_bank = record { regs = λ reg. None; mregs = λ mreg. [] }
+
+-- the bank holds nothing
+pub record IsEmpty (bank : Bank) : Type 0 where
+  pub regs : (reg : ℕ) → bank.regs reg ≡ None
+  pub mregs : (mreg : ℕ) → bank.mregs mreg ≡ []
 
 -- what a register that had this value has behind an operation at an offset, if what is copied is read from the bank
 abbrev pub value_behind : Bank → (offset : ℕ) → Op → (reg : ℕ) → Option ℕ → Option ℕ

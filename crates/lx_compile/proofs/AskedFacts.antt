@@ -42,5 +42,5 @@ CanAnswer-at (Some facts) made place one at line asked within is bare are = are
 pub CanTell-at : (facts : Option Facts) (made : List Made) (place : ℕ) (one : Made) → place < length made → one ≡ get_or made place one
     → AreAsked facts made → CanTell facts made one
 CanTell-at facts made place (Outside text) within is are = tt
-CanTell-at facts made place (Scanners piece checks warnings cover) within is are = tt
+CanTell-at facts made place (Scanners piece checks warnings cover groups) within is are = tt
 CanTell-at facts made place (Bare at line asked) within is are = CanAnswer-at facts made place (Bare at line asked) at line asked within is refl are

@@ -154,7 +154,7 @@ module _ (names : List (List ℕ)) where
   abbrev AreMadeMet : List Made → Type 0
   AreMadeMet [] = Unit {0}
   AreMadeMet (made.Outside text ∷ all) = AreMadeMet all
-  AreMadeMet (made.Scanners piece checks warnings cover ∷ all) = AreMadeMet all
+  AreMadeMet (made.Scanners piece checks warnings cover groups ∷ all) = AreMadeMet all
   AreMadeMet (made.Bare at line directive ∷ all) = IsMet names at × AreMadeMet all
 
   made-met : (setting : Setting) (number first_state : ℕ) (parts : List Part) (all : List Made) → AreMade setting number first_state parts all
@@ -163,15 +163,15 @@ module _ (names : List (List ℕ)) where
   made-met setting number first_state [] (one ∷ all) are met = absurd are
   made-met setting number first_state (Outside text ∷ parts) [] are met = absurd are
   made-met setting number first_state (Outside text ∷ parts) (made.Outside other ∷ all) are met = made-met setting number first_state parts all are.1 met
-  made-met setting number first_state (Outside text ∷ parts) (made.Scanners piece checks warnings cover ∷ all) are met = absurd are
+  made-met setting number first_state (Outside text ∷ parts) (made.Scanners piece checks warnings cover groups ∷ all) are met = absurd are
   made-met setting number first_state (Outside text ∷ parts) (made.Bare at line directive ∷ all) are met = absurd are
   made-met setting number first_state (Block at line content ∷ parts) [] are met = absurd are
   made-met setting number first_state (Block at line (Scanners resolved) ∷ parts) (made.Outside other ∷ all) are met = absurd are.1
-  made-met setting number first_state (Block at line (Scanners resolved) ∷ parts) (made.Scanners piece checks warnings cover ∷ all) are met =
+  made-met setting number first_state (Block at line (Scanners resolved) ∷ parts) (made.Scanners piece checks warnings cover groups ∷ all) are met =
       made-met setting (suc number) are.0 parts all are.2 met.1
   made-met setting number first_state (Block at line (Scanners resolved) ∷ parts) (made.Bare place mark directive ∷ all) are met = absurd are.1
   made-met setting number first_state (Block at line (Asks directive) ∷ parts) (made.Outside other ∷ all) are met = absurd are.1
-  made-met setting number first_state (Block at line (Asks directive) ∷ parts) (made.Scanners piece checks warnings cover ∷ all) are met = absurd are.1
+  made-met setting number first_state (Block at line (Asks directive) ∷ parts) (made.Scanners piece checks warnings cover groups ∷ all) are met = absurd are.1
   made-met setting number first_state (Block at line (Asks directive) ∷ parts) (made.Bare place mark other ∷ all) are met =
       (same-met place at (ap (λ (p : Pos). p.file) are.1.0) met.0, made-met setting (suc number) are.0 parts all are.2 met.1)
 
@@ -207,7 +207,7 @@ module _ (names : List (List ℕ)) where
     directives-placed : (made : List Made) → AreMadeMet made → IsFoundPlaced (fault_among spellings all made)
     directives-placed [] met = tt
     directives-placed (made.Outside text ∷ made) met = directives-placed made met
-    directives-placed (made.Scanners piece checks warnings cover ∷ made) met = directives-placed made met
+    directives-placed (made.Scanners piece checks warnings cover groups ∷ made) met = directives-placed made met
     directives-placed (made.Bare at line directive ∷ made) met =
         option_or-placed (directive_fault spellings all at directive) (fault_among spellings all made)
         (option_or-placed (missing_fault (pieces_among all) at directive) (text_fault spellings all at directive)

@@ -37,7 +37,7 @@ NoneAnswers block parts = AllByRecursion (λ (part : OutputPart). Answers block 
 
 -- a piece of scanners has this number
 abbrev HasNumber : (number : ℕ) → Made → Type 0
-HasNumber number (made.Scanners piece checks warnings cover) = piece.number ≡ number
+HasNumber number (made.Scanners piece checks warnings cover groups) = piece.number ≡ number
 HasNumber number one = Unit {0}
 
 -- pieces are numbered from here on
@@ -47,12 +47,12 @@ AreNumbered number (one ∷ some) = HasNumber number one × AreNumbered (number_
 
 number_of_block : (setting : Setting) (number first_state next : ℕ) (at : Pos) (line : ℕ) (content : Content) (one : Made)
     → IsMadeOf setting number first_state next at line content one → HasNumber number one × (suc number ≡ number_behind number one)
-number_of_block setting number first_state next at line (Scanners resolved) (made.Scanners piece checks warnings cover) is = (is.0.generated.fields.number, refl)
+number_of_block setting number first_state next at line (Scanners resolved) (made.Scanners piece checks warnings cover groups) is = (is.0.generated.fields.number, refl)
 number_of_block setting number first_state next at line (Scanners resolved) (made.Outside text) is = absurd is
 number_of_block setting number first_state next at line (Scanners resolved) (made.Bare place mark other) is = absurd is
 number_of_block setting number first_state next at line (Asks directive) (made.Bare place mark other) is = (tt, refl)
 number_of_block setting number first_state next at line (Asks directive) (made.Outside text) is = absurd is
-number_of_block setting number first_state next at line (Asks directive) (made.Scanners piece checks warnings cover) is = absurd is
+number_of_block setting number first_state next at line (Asks directive) (made.Scanners piece checks warnings cover groups) is = absurd is
 
 AreNumbered-made : (setting : Setting) (number first_state : ℕ) (parts : List Part) (some : List Made) → AreMade setting number first_state parts some
     → AreNumbered number some
@@ -61,7 +61,7 @@ AreNumbered-made setting number first_state [] (one ∷ some) given = absurd giv
 AreNumbered-made setting number first_state (Outside text ∷ parts) [] given = absurd given
 AreNumbered-made setting number first_state (Outside text ∷ parts) (made.Outside other ∷ some) given =
     (tt, AreNumbered-made setting number first_state parts some given.1)
-AreNumbered-made setting number first_state (Outside text ∷ parts) (made.Scanners piece checks warnings cover ∷ some) given = absurd given
+AreNumbered-made setting number first_state (Outside text ∷ parts) (made.Scanners piece checks warnings cover groups ∷ some) given = absurd given
 AreNumbered-made setting number first_state (Outside text ∷ parts) (made.Bare place mark other ∷ some) given = absurd given
 AreNumbered-made setting number first_state (Block at line content ∷ parts) [] given = absurd given
 AreNumbered-made setting number first_state (Block at line content ∷ parts) (one ∷ some) given =
@@ -78,13 +78,13 @@ number_past number (one ∷ some) = number_past (number_behind number one) some
 number_past-least : (number : ℕ) (some : List Made) → number ≤ number_past number some
 number_past-least number [] = omega arith
 number_past-least number (made.Outside text ∷ some) = number_past-least number some
-number_past-least number (made.Scanners piece checks warnings cover ∷ some) = omega (arith, number_past-least (suc number) some)
+number_past-least number (made.Scanners piece checks warnings cover groups ∷ some) = omega (arith, number_past-least (suc number) some)
 number_past-least number (made.Bare at line directive ∷ some) = omega (arith, number_past-least (suc number) some)
 
 number_past-after : (number : ℕ) (some : List Made) → number_past number some + 1 ≡ number + number_after some
 number_past-after number [] = refl
 number_past-after number (made.Outside text ∷ some) = number_past-after number some
-number_past-after number (made.Scanners piece checks warnings cover ∷ some) = omega (arith, number_past-after (suc number) some)
+number_past-after number (made.Scanners piece checks warnings cover groups ∷ some) = omega (arith, number_past-after (suc number) some)
 number_past-after number (made.Bare at line directive ∷ some) = omega (arith, number_past-after (suc number) some)
 
 AreNumbered-past : (number : ℕ) (earlier rest : List Made) → AreNumbered number (earlier ++ rest) → AreNumbered (number_past number earlier) rest
@@ -122,10 +122,10 @@ module _ (names : Spellings) (out : List ℕ) (all : List Made) where
   others_answer asked number line (made.Outside text ∷ earlier) rest within numbered =
       let next : ℕ = line_after line text in
       (λ is. is, others_answer asked number next earlier rest within numbered.1)
-  others_answer asked number line (made.Scanners piece checks warnings cover ∷ earlier) rest within numbered =
+  others_answer asked number line (made.Scanners piece checks warnings cover groups ∷ earlier) rest within numbered =
       let least = number_past-least (suc number) earlier in
       let same : piece.number ≡ number = numbered.0 in
-      let next : ℕ = line_after line (made_text names out all number line (made.Scanners piece checks warnings cover)) in
+      let next : ℕ = line_after line (made_text names out all number line (made.Scanners piece checks warnings cover groups)) in
       (λ is. omega (arith, within, least, same, is), others_answer asked (suc number) next earlier rest within numbered.1)
   others_answer asked number line (made.Bare at mark directive ∷ earlier) rest within numbered =
       let least = number_past-least (suc number) earlier in
@@ -138,7 +138,7 @@ module _ (names : Spellings) (out : List ℕ) (all : List Made) where
   no_scanner_answers number line (made.Outside text ∷ earlier) none =
       let next : ℕ = line_after line text in
       (λ is. is, no_scanner_answers number next earlier none.1)
-  no_scanner_answers number line (made.Scanners piece checks warnings cover ∷ earlier) none = absurd (false≢true (sym none.0))
+  no_scanner_answers number line (made.Scanners piece checks warnings cover groups ∷ earlier) none = absurd (false≢true (sym none.0))
   no_scanner_answers number line (made.Bare at mark directive ∷ earlier) none =
       let next : ℕ = line_after line (made_text names out all number line (made.Bare at mark directive)) in
       (λ is. is, no_scanner_answers (suc number) next earlier none.1)
@@ -148,18 +148,18 @@ module _ (names : Spellings) (out : List ℕ) (all : List Made) where
   answers-number : (number line : ℕ) (one : Made) → HasNumber number one → is_piece one ≡ true
       → Answers (Some number) (output_part names out all number line one)
   answers-number number line (made.Outside text) numbered is = absurd (false≢true is)
-  answers-number number line (made.Scanners piece checks warnings cover) numbered is = numbered
+  answers-number number line (made.Scanners piece checks warnings cover groups) numbered is = numbered
   answers-number number line (made.Bare at mark directive) numbered is = refl
 
   answers-scanner : (number line : ℕ) (one : Made) → is_scanner one ≡ true → Answers None (output_part names out all number line one)
   answers-scanner number line (made.Outside text) is = absurd (false≢true is)
-  answers-scanner number line (made.Scanners piece checks warnings cover) is = tt
+  answers-scanner number line (made.Scanners piece checks warnings cover groups) is = tt
   answers-scanner number line (made.Bare at mark directive) is = absurd (false≢true is)
 
   short_number : (number line : ℕ) (one : Made) (rest : List OutputPart) → HasNumber number one → is_piece one ≡ true
       → AreCut (output_part names out all number line one ∷ rest) → IsShort number
   short_number number line (made.Outside text) rest numbered is cut = absurd (false≢true is)
-  short_number number line (made.Scanners piece checks warnings cover) rest numbered is cut =
+  short_number number line (made.Scanners piece checks warnings cover groups) rest numbered is cut =
       let same : piece.number ≡ number = numbered in let short = cut.0.range.number in omega (arith, same, short)
   short_number number line (made.Bare at mark directive) rest numbered is cut = cut.0
 

@@ -1,12 +1,16 @@
 -- The greatest of numbers.
-use Rattle.std.proofs.Common.{◌≡◌, ◌≢◌, ◌≤◌, ◌<◌, ℕ, zero, suc, max, List, [], ◌∷◌, get_or, length, refl, rules, arith}
+use Rattle.std.proofs.Common.{◌≡◌, ◌≢◌, ◌+◌, ◌≤◌, ◌<◌, ℕ, zero, suc, max, List, [], ◌∷◌, ap, drop, get_or, length, refl, rules, arith}
 use Rattle.std.specs.List.{All, Contains}
 use Rattle.std.proofs.lemmas.List.Elements.{All-head, All-tail}
 use Rattle.std.specs.Ordering.{nat_cmp, ord_max}
 use Rattle.lx_base.specs.declared.lists.Sequence.{Sequence}
 use Rattle.lx_fill.specs.declared.fill.CheckList.{CheckList}
 use Rattle.lx_ccode.specs.declared.piece.Piece.{Piece}
+use Rattle.lx_regex.specs.declared.rules.Rule.{Rule}
+use Rattle.lx_rules.specs.declared.resolved.Scanner.{Scanner}
 use Rattle.lx_compile.specs.Facts.{greatest, greatest_in, groups_of, units_of}
+use Rattle.lx_compile.specs.Made.{groups_in_rules, groups_in_scanners}
+use Rattle.lx_compile.proofs.ItemRuns.{drop-item}
 use Rattle.lx_compile.specs.declared.made.Made.{Made}
 use Rattle.lx_compile.specs.declared.made.Made.TheVariants.{Outside, Scanners, Bare}
 use Rattle.lx_compile.specs.declared.warned.PlacedWarning.{PlacedWarning}
@@ -58,26 +62,53 @@ pub units_of-positive : (made : List Made) → 1 ≤ units_of made
 units_of-positive [] = omega arith
 units_of-positive (Outside text ∷ made) = units_of-positive made
 units_of-positive (Bare at line directive ∷ made) = units_of-positive made
-units_of-positive (Scanners piece checks warnings cover ∷ made) =
+units_of-positive (Scanners piece checks warnings cover groups ∷ made) =
     let rest = units_of-positive made in
     omega (arith, rest, greatest_in-max (units_of made) checks)
 
 -- that of one piece more
-pub units_of-more : (most : ℕ) (piece : Piece) (checks : List (List ℕ)) (warnings : List PlacedWarning) (cover : List ℕ) (made : List Made)
-    → max (greatest_in most checks) (units_of made) ≡ max most (units_of (Scanners piece checks warnings cover ∷ made))
-units_of-more most piece checks warnings cover made = omega (arith, greatest_in-max most checks, greatest_in-max (units_of made) checks)
+pub units_of-more : (most : ℕ) (piece : Piece) (checks : List (List ℕ)) (warnings : List PlacedWarning) (cover : List ℕ) (groups : ℕ) (made : List Made)
+    → max (greatest_in most checks) (units_of made) ≡ max most (units_of (Scanners piece checks warnings cover groups ∷ made))
+units_of-more most piece checks warnings cover groups made = omega (arith, greatest_in-max most checks, greatest_in-max (units_of made) checks)
 
 -- the number of groups is at least 1
-pub groups_of-positive : (pieces : List Piece) → 1 ≤ groups_of pieces
+pub groups_of-positive : (made : List Made) → 1 ≤ groups_of made
 groups_of-positive [] = omega arith
-groups_of-positive (piece ∷ pieces) = let rest = groups_of-positive pieces in omega (arith, rest)
+groups_of-positive (Outside text ∷ made) = groups_of-positive made
+groups_of-positive (Bare at line directive ∷ made) = groups_of-positive made
+groups_of-positive (Scanners piece checks warnings cover groups ∷ made) = let rest = groups_of-positive made in omega (arith, rest)
+
+-- that of one piece more
+pub groups_of-more : (most : ℕ) (piece : Piece) (checks : List (List ℕ)) (warnings : List PlacedWarning) (cover : List ℕ) (groups : ℕ) (made : List Made)
+    → max (max most groups) (groups_of made) ≡ max most (groups_of (Scanners piece checks warnings cover groups ∷ made))
+groups_of-more most piece checks warnings cover groups made = omega arith
+
+-- without a piece it stays
+pub groups_of-other : (one : Made) (made : List Made)
+    → ((piece : Piece) (checks : Sequence CheckList) (warnings : Sequence PlacedWarning) (cover : Sequence ℕ) (groups : ℕ) → one ≡ Scanners piece checks warnings cover groups → ⊥) → groups_of (one ∷ made) ≡ groups_of made
+groups_of-other (Outside text) made other = refl
+groups_of-other (Bare at line directive) made other = refl
+groups_of-other (Scanners piece checks warnings cover groups) made other = absurd (other piece checks warnings cover groups refl)
+
+-- one rule more, and one scanner more
+pub groups_in_rules-more : (rules : List Rule) (place : ℕ) (rule : Rule) (before more total : ℕ) → place < length rules → rule ≡ get_or rules place rule
+    → more ≡ max before rule.groups → max before (groups_in_rules (drop place rules)) ≡ total
+    → max more (groups_in_rules (drop (place + 1) rules)) ≡ total
+groups_in_rules-more rules place rule before more total within is m e =
+    let parts = ap groups_in_rules (drop-item rules place rule within is) in omega (arith, m, e, parts)
+
+pub groups_in_scanners-more : (scanners : List Scanner) (place : ℕ) (scanner : Scanner) (before own more total : ℕ) → place < length scanners
+    → scanner ≡ get_or scanners place scanner → own ≡ groups_in_rules scanner.set.rules → more ≡ max before own
+    → max before (groups_in_scanners (drop place scanners)) ≡ total → max more (groups_in_scanners (drop (place + 1) scanners)) ≡ total
+groups_in_scanners-more scanners place scanner before own more total within is o m e =
+    let parts = ap groups_in_scanners (drop-item scanners place scanner within is) in omega (arith, o, m, e, parts)
 
 -- without a piece it stays
 pub units_of-other : (one : Made) (made : List Made)
-    → ((piece : Piece) (checks : Sequence CheckList) (warnings : Sequence PlacedWarning) (cover : Sequence ℕ) → one ≡ Scanners piece checks warnings cover → ⊥) → units_of (one ∷ made) ≡ units_of made
+    → ((piece : Piece) (checks : Sequence CheckList) (warnings : Sequence PlacedWarning) (cover : Sequence ℕ) (groups : ℕ) → one ≡ Scanners piece checks warnings cover groups → ⊥) → units_of (one ∷ made) ≡ units_of made
 units_of-other (Outside text) made other = refl
 units_of-other (Bare at line directive) made other = refl
-units_of-other (Scanners piece checks warnings cover) made other = absurd (other piece checks warnings cover refl)
+units_of-other (Scanners piece checks warnings cover groups) made other = absurd (other piece checks warnings cover groups refl)
 
 -- `max` of numbers is the greater one
 pub ord_max-max : (first second : ℕ) → ord_max nat_cmp first second ≡ max first second

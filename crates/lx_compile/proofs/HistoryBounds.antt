@@ -68,8 +68,8 @@ history_count-bound [] valid = omega arith
 history_count-bound (Outside text ∷ made) valid = history_count-bound made (All-tail IsPrintable (Outside text) made valid)
 history_count-bound (Bare at line directive ∷ made) valid =
     history_count-bound made (All-tail IsPrintable (Bare at line directive) made valid)
-history_count-bound (Scanners piece checks warnings cover ∷ made) valid =
-    let printable = All-head IsPrintable (Scanners piece checks warnings cover) made valid in
+history_count-bound (Scanners piece checks warnings cover groups ∷ made) valid =
+    let printable = All-head IsPrintable (Scanners piece checks warnings cover groups) made valid in
     let first = mregs_of-bound piece.names piece.blocks printable.spelled in
-    let rest = history_count-bound made (All-tail IsPrintable (Scanners piece checks warnings cover) made valid) in
+    let rest = history_count-bound made (All-tail IsPrintable (Scanners piece checks warnings cover groups) made valid) in
     omega (arith, first, rest)

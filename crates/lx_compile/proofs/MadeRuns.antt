@@ -44,7 +44,7 @@ AreMade-length setting number first_state [] (one ∷ made) are = absurd are
 AreMade-length setting number first_state (Outside text ∷ parts) [] are = absurd are
 AreMade-length setting number first_state (Outside text ∷ parts) (variant.Outside other ∷ made) are =
     ap suc (AreMade-length setting number first_state parts made are.1)
-AreMade-length setting number first_state (Outside text ∷ parts) (variant.Scanners piece checks warnings cover ∷ made) are = absurd are
+AreMade-length setting number first_state (Outside text ∷ parts) (variant.Scanners piece checks warnings cover groups ∷ made) are = absurd are
 AreMade-length setting number first_state (Outside text ∷ parts) (variant.Bare at line directive ∷ made) are = absurd are
 AreMade-length setting number first_state (Block at line content ∷ parts) [] are = absurd are
 AreMade-length setting number first_state (Block at line content ∷ parts) (one ∷ made) are =
@@ -54,8 +54,8 @@ AreMade-length setting number first_state (Block at line content ∷ parts) (one
 IsMadeOf-printable : (setting : Setting) (number first_state next : ℕ) (at : Pos) (line : ℕ) (content : Content) (one : Made)
     → IsMadeOf setting number first_state next at line content one → IsPrintable one
 IsMadeOf-printable setting number first_state next at line content (variant.Outside text) is = tt
-IsMadeOf-printable setting number first_state next at line (Scanners resolved) (variant.Scanners piece checks warnings cover) is = is.0.generated.valid
-IsMadeOf-printable setting number first_state next at line (Asks directive) (variant.Scanners piece checks warnings cover) is = absurd is
+IsMadeOf-printable setting number first_state next at line (Scanners resolved) (variant.Scanners piece checks warnings cover groups) is = is.0.generated.valid
+IsMadeOf-printable setting number first_state next at line (Asks directive) (variant.Scanners piece checks warnings cover groups) is = absurd is
 IsMadeOf-printable setting number first_state next at line content (variant.Bare place mark directive) is = tt
 
 EachIsPrintable-made : (setting : Setting) (number first_state : ℕ) (parts : List Part) (made : List Made)
@@ -65,7 +65,7 @@ EachIsPrintable-made setting number first_state [] (one ∷ made) are = absurd a
 EachIsPrintable-made setting number first_state (Outside text ∷ parts) [] are = absurd are
 EachIsPrintable-made setting number first_state (Outside text ∷ parts) (variant.Outside other ∷ made) are =
     (tt, EachIsPrintable-made setting number first_state parts made are.1)
-EachIsPrintable-made setting number first_state (Outside text ∷ parts) (variant.Scanners piece checks warnings cover ∷ made) are = absurd are
+EachIsPrintable-made setting number first_state (Outside text ∷ parts) (variant.Scanners piece checks warnings cover groups ∷ made) are = absurd are
 EachIsPrintable-made setting number first_state (Outside text ∷ parts) (variant.Bare at line directive ∷ made) are = absurd are
 EachIsPrintable-made setting number first_state (Block at line content ∷ parts) [] are = absurd are
 EachIsPrintable-made setting number first_state (Block at line content ∷ parts) (one ∷ made) are = (

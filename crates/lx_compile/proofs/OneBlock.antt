@@ -89,11 +89,14 @@ same-turned : (scanners others : List Scanner) → HaveSameRules scanners others
 same-turned [] [] same = tt
 same-turned [] (other ∷ others) same = absurd same
 same-turned (scanner ∷ scanners) [] same = absurd same
-same-turned (scanner ∷ scanners) (other ∷ others) same = ((sym same.0.0, sym same.0.1), same-turned scanners others same.1)
+same-turned (scanner ∷ scanners) (other ∷ others) same = (
+  record { cond = sym same.0.cond; patterns = sym same.0.patterns; names = sym same.0.names },
+  same-turned scanners others same.1,
+)
 
 pub alike-turned : (content another : Content) → GiveAlike content another → GiveAlike another content
 alike-turned (Scanners resolved) (Scanners another) alike =
-    record { config = sym alike.config; scanners = same-turned resolved.scanners another.scanners alike.scanners }
+    record { acts = sym alike.acts; config = sym alike.config; scanners = same-turned resolved.scanners another.scanners alike.scanners }
 alike-turned (Scanners resolved) (Asks directive) alike = absurd alike
 alike-turned (Asks directive) (Scanners another) alike = absurd alike
 alike-turned (Asks directive) (Asks other) alike = sym alike

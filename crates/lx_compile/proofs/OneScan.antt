@@ -48,7 +48,7 @@ module _ (options : Options) where
   scanners_or_not at [] others fault same is faultless = is
   scanners_or_not at (scanner ∷ scanners) [] fault same is faultless = same
   scanners_or_not at (scanner ∷ scanners) (other ∷ others) fault same (inl is) faultless =
-      scanner_or_not scanner other same.0.1 at fault is faultless.0
+      scanner_or_not scanner other same.0.patterns at fault is faultless.0
   scanners_or_not at (scanner ∷ scanners) (other ∷ others) fault same (inr is) faultless =
       scanners_or_not at scanners others fault same.1 is.1 faultless.1
 
@@ -57,11 +57,11 @@ module _ (options : Options) where
   scanners-one at [] others fault second same is is_other = absurd is
   scanners-one at (scanner ∷ scanners) [] fault second same is is_other = absurd same
   scanners-one at (scanner ∷ scanners) (other ∷ others) fault second same (inl is) (inl is_other) =
-      scanner-one scanner other same.0.1 at fault second is is_other
+      scanner-one scanner other same.0.patterns at fault second is is_other
   scanners-one at (scanner ∷ scanners) (other ∷ others) fault second same (inl is) (inr is_other) =
-      absurd (scanner_or_not scanner other same.0.1 at fault is is_other.0)
+      absurd (scanner_or_not scanner other same.0.patterns at fault is is_other.0)
   scanners-one at (scanner ∷ scanners) (other ∷ others) fault second same (inr is) (inl is_other) =
-      absurd (scanner_or_not other scanner (sym same.0.1) at second is_other is.0)
+      absurd (scanner_or_not other scanner (sym same.0.patterns) at second is_other is.0)
   scanners-one at (scanner ∷ scanners) (other ∷ others) fault second same (inr is) (inr is_other) =
       scanners-one at scanners others fault second same.1 is.1 is_other.1
 

@@ -63,7 +63,7 @@ module _ (names : Spellings) (out : List ℕ) (all : List Made) where
   pub part_text-made : (number line : ℕ) (one : Made)
       → part_text (output_part names out all number line one) ≡ made_text names out all number line one
   part_text-made number line (made.Outside text) = refl
-  part_text-made number line (made.Scanners piece checks warnings cover) = refl
+  part_text-made number line (made.Scanners piece checks warnings cover groups) = refl
   part_text-made number line (made.Bare at mark directive) = bare_text number names (body_of all directive) mark
 
   pub parts_text-among : (number line : ℕ) (some : List Made)
@@ -113,7 +113,7 @@ module _ (names : Spellings) (all : List Made) where
   no_faults : (some : List Made) → fault_among names all some ≡ None → AllByRecursion HasNoFault some
   no_faults [] none = tt
   no_faults (made.Outside text ∷ some) none = (tt, no_faults some none)
-  no_faults (made.Scanners piece checks warnings cover ∷ some) none = (tt, no_faults some none)
+  no_faults (made.Scanners piece checks warnings cover groups ∷ some) none = (tt, no_faults some none)
   no_faults (made.Bare at line directive ∷ some) none =
       let both = option_or-none (directive_fault names all at directive) (fault_among names all some) none in
       (both.0, no_faults some both.1)
@@ -259,7 +259,7 @@ module _ (options : Options) (names : Spellings) (out : List ℕ) (all : List Ma
       → IsMadeOf setting number first_state next at line content one → HasPlainActs content → line ≤ 16777217 → HasNoFault names all one
       → IsShort number → begins_piece (47 ∷ parts_text rest) ≡ false → AreCut rest
       → AreCut (output_part names out all number begin one ∷ rest)
-  cut_block number first_state _ begin at line (Scanners resolved) (made.Scanners piece checks _ _) rest is acts _ _ _ slash cut =
+  cut_block number first_state _ begin at line (Scanners resolved) (made.Scanners piece checks _ _ _) rest is acts _ _ _ slash cut =
       cut_scanners number first_state begin at line resolved piece checks rest is.0 acts slash cut
   cut_block number first_state next begin at line (Asks directive) (made.Bare place mark other) rest is acts range none short slash cut =
       cut_bare number (body_then names (body_of all other) (line_then mark [])) rest short
@@ -268,7 +268,7 @@ module _ (options : Options) (names : Spellings) (out : List ℕ) (all : List Ma
   cut_block _ _ _ _ _ _ (Scanners _) (made.Outside _) _ is _ _ _ _ _ _ = absurd is
   cut_block _ _ _ _ _ _ (Scanners _) (made.Bare _ _ _) _ is _ _ _ _ _ _ = absurd is
   cut_block _ _ _ _ _ _ (Asks _) (made.Outside _) _ is _ _ _ _ _ _ = absurd is
-  cut_block _ _ _ _ _ _ (Asks _) (made.Scanners _ _ _ _) _ is _ _ _ _ _ _ = absurd is
+  cut_block _ _ _ _ _ _ (Asks _) (made.Scanners _ _ _ _ _) _ is _ _ _ _ _ _ = absurd is
 
   -- it is no outside text, and has a number
   record IsNumbered (number begin : ℕ) (one : Made) : Type 0 where
@@ -277,7 +277,7 @@ module _ (options : Options) (names : Spellings) (out : List ℕ) (all : List Ma
 
   block_is_numbered : (number first_state next begin : ℕ) (at : Pos) (line : ℕ) (content : Content) (one : Made)
       → IsMadeOf setting number first_state next at line content one → IsNumbered number begin one
-  block_is_numbered number first_state next begin at line content (made.Scanners piece checks warnings cover) is =
+  block_is_numbered number first_state next begin at line content (made.Scanners piece checks warnings cover groups) is =
       record { not_outside = λ rest. refl; behind = refl }
   block_is_numbered number first_state next begin at line content (made.Bare place mark other) is =
       record { not_outside = λ rest. refl; behind = refl }
@@ -317,7 +317,7 @@ module _ (options : Options) (names : Spellings) (out : List ℕ) (all : List Ma
   cut_from _ _ _ _ (piece.Block _ _ _ _ _ ∷ _) [] _ _ are given _ _ _ _ _ _ _ = absurd are
   cut_from _ _ _ _ (piece.Block _ _ _ _ _ ∷ _) (Outside _ ∷ _) _ _ are given _ _ _ _ _ _ _ = absurd are
   cut_from _ _ _ _ (piece.Outside _ ∷ _) (Outside _ ∷ _) [] _ are given _ _ _ _ _ _ _ = absurd given
-  cut_from _ _ _ _ (piece.Outside _ ∷ _) (Outside _ ∷ _) (made.Scanners _ _ _ _ ∷ _) _ are given _ _ _ _ _ _ _ = absurd given
+  cut_from _ _ _ _ (piece.Outside _ ∷ _) (Outside _ ∷ _) (made.Scanners _ _ _ _ _ ∷ _) _ are given _ _ _ _ _ _ _ = absurd given
   cut_from _ _ _ _ (piece.Outside _ ∷ _) (Outside _ ∷ _) (made.Bare _ _ _ ∷ _) _ are given _ _ _ _ _ _ _ = absurd given
   cut_from environment number first_state begin (piece.Outside text ∷ pieces) (Outside other ∷ parts) (made.Outside third ∷ some)
       last are given fine keeps range apart none slash few =

@@ -83,7 +83,7 @@ module _ (options : Options) (setting : Setting) (names : Spellings) (out : List
   made-outside (letter ∷ source) (Block at line content ∷ parts) all are made_are = absurd are
   made-outside (letter ∷ source) (Outside text ∷ part ∷ parts) all are made_are = absurd are.1
   made-outside (letter ∷ source) (Outside text ∷ []) [] are made_are = absurd made_are
-  made-outside (letter ∷ source) (Outside text ∷ []) (made.Scanners piece checks warnings cover ∷ all) are made_are = absurd made_are
+  made-outside (letter ∷ source) (Outside text ∷ []) (made.Scanners piece checks warnings cover groups ∷ all) are made_are = absurd made_are
   made-outside (letter ∷ source) (Outside text ∷ []) (made.Bare at line directive ∷ all) are made_are = absurd made_are
   made-outside (letter ∷ source) (Outside text ∷ []) (made.Outside other ∷ one ∷ all) are made_are = absurd made_are.1
   made-outside (letter ∷ source) (Outside text ∷ []) (made.Outside other ∷ []) are made_are = append-nil other ∙ made_are.0 ∙ are.0

@@ -27,7 +27,7 @@ line_after-written line begins start output text after shown at is same begins_i
 -- the number behind one that is made
 pub number_behind-le : (number : ℕ) (one : Made) → number_behind number one ≤ number + 1
 number_behind-le number (Outside text) = omega arith
-number_behind-le number (Scanners piece checks warnings cover) = omega arith
+number_behind-le number (Scanners piece checks warnings cover groups) = omega arith
 number_behind-le number (Bare at mark directive) = omega arith
 
 -- one text more, behind which the next piece has this number and the next text begins in this line

@@ -119,7 +119,7 @@ AreCovered options number resolved text = AreCoveredBy options number resolved.a
 
 -- the text that stands with what is made of a part
 abbrev pub cover_in : Made → List ℕ
-cover_in (Scanners piece checks warnings cover) = cover
+cover_in (Scanners piece checks warnings cover groups) = cover
 cover_in other = []
 
 -- the text of all that is made

@@ -15,7 +15,7 @@ module _ (names : Spellings) (out : List ℕ) (all : List Made) where
   -- the part of the output that this is, which begins in a line
   abbrev pub output_part : (number line : ℕ) → Made → OutputPart
   output_part number line (Outside text) = outside text
-  output_part number line (Scanners piece checks warnings cover) = scanner (place_of out line piece) piece
+  output_part number line (Scanners piece checks warnings cover groups) = scanner (place_of out line piece) piece
   output_part number line (Bare at mark directive) = bare number (body_then names (body_of all directive) (line_then mark []))
 
   -- its parts
@@ -37,7 +37,7 @@ is_piece one = true
 
 -- it is the piece of scanners
 abbrev pub is_scanner : Made → Bool
-is_scanner (Scanners piece checks warnings cover) = true
+is_scanner (Scanners piece checks warnings cover groups) = true
 is_scanner one = false
 
 -- none of them is

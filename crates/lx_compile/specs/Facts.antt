@@ -8,7 +8,7 @@ use Rattle.lx_base.specs.declared.faults.Fault.{Fault}
 use Rattle.lx_base.specs.declared.faults.Fault.TheVariants.{BadValue, Condition, NoRules}
 use Rattle.lx_base.specs.declared.places.Pos.{Pos}
 use Rattle.lx_ccode.specs.Bodies.{body_then}
-use Rattle.lx_ccode.specs.Counts.{greatest_of, mregs_of, regs_of}
+use Rattle.lx_ccode.specs.Counts.{mregs_of, regs_of}
 use Rattle.lx_ccode.specs.States.{states_from}
 use Rattle.lx_ccode.specs.Statements.{all_statements, has_register_one}
 use Rattle.lx_ccode.specs.declared.bodies.Body.{Body}
@@ -17,8 +17,6 @@ use Rattle.lx_ccode.specs.declared.bodies.FileState.{FileState}
 use Rattle.lx_ccode.specs.declared.bodies.Format.{Format}
 use Rattle.lx_ccode.specs.declared.piece.CondCase.{CondCase}
 use Rattle.lx_ccode.specs.declared.piece.Piece.{Piece}
-use Rattle.lx_ccode.specs.declared.piece.Stmt.{Stmt}
-use Rattle.lx_ccode.specs.declared.piece.Stmt.TheVariants.{Count}
 use Rattle.lx_exprs.specs.Checks.{is_among}
 use Rattle.lx_compile.specs.declared.made.Made.{Made}
 use Rattle.lx_compile.specs.declared.made.Made.TheVariants.{Scanners, Bare}
@@ -30,7 +28,7 @@ use Rattle.lx_compile.specs.declared.parts.Directive.TheVariants as directive
 -- the pieces of scanners
 abbrev pub pieces_among : List Made → List Piece
 pieces_among [] = []
-pieces_among (Scanners piece checks warnings cover ∷ made) = piece ∷ pieces_among made
+pieces_among (Scanners piece checks warnings cover groups ∷ made) = piece ∷ pieces_among made
 pieces_among (other ∷ made) = pieces_among made
 
 -- the greatest of numbers, or the least one that it may be
@@ -46,18 +44,14 @@ greatest_in least (numbers ∷ lists) = greatest (greatest_in least lists) numbe
 -- the greatest number of units that a check asks for, at least 1
 abbrev pub units_of : List Made → ℕ
 units_of [] = 1
-units_of (Scanners piece checks warnings cover ∷ made) = greatest_in (units_of made) checks
+units_of (Scanners piece checks warnings cover groups ∷ made) = greatest_in (units_of made) checks
 units_of (other ∷ made) = units_of made
 
--- how many groups the statement tells of
-abbrev pub groups_in : Stmt → ℕ
-groups_in (Count groups) = groups
-groups_in _ = 0
-
--- the greatest number of groups, at least 1
-abbrev pub groups_of : List Piece → ℕ
+-- the greatest number of groups of a rule of the file's scanners, at least 1
+abbrev pub groups_of : List Made → ℕ
 groups_of [] = 1
-groups_of (piece ∷ pieces) = max (greatest_of groups_in (all_statements piece.blocks)) (groups_of pieces)
+groups_of (Scanners piece checks warnings cover groups ∷ made) = max groups (groups_of made)
+groups_of (other ∷ made) = groups_of made
 
 -- the greatest number of a register, or 0
 abbrev pub last_register : List Piece → ℕ
@@ -125,7 +119,7 @@ listed body (Some format) = body format
 abbrev pub body_of : List Made → Directive → Body
 body_of made directive.Nothing = Empty
 body_of made directive.Max = MaxFill (units_of made)
-body_of made directive.MaxNmatch = MaxGroups (groups_of (pieces_among made))
+body_of made directive.MaxNmatch = MaxGroups (groups_of made)
 body_of made (directive.Stags format) = listed (λ format. Registers format (registers_of (pieces_among made))) format
 body_of made (directive.Mtags format) = listed (λ format. Histories format (histories_of (pieces_among made))) format
 body_of made directive.Types = Conditions (conditions_of (pieces_among made))

@@ -1,5 +1,5 @@
 -- What is made of the parts of a source: the pieces of scanners, before the text of any directive.
-use Rattle.std.specs.Prelude.{◌≡◌, ◌<◌, ℕ, suc, ◌+◌, length, Bool, List, [], ◌∷◌, Option, Some, None, slice_index_or, if◌then◌else◌}
+use Rattle.std.specs.Prelude.{◌≡◌, ◌<◌, ℕ, suc, ◌+◌, max, length, Bool, List, [], ◌∷◌, Option, Some, None, slice_index_or, if◌then◌else◌}
 use Rattle.std.specs.List.{AllByRecursion}
 use Rattle.lx_auto.specs.declared.automaton.Auto.{Auto}
 use Rattle.lx_base.specs.declared.places.Pos.{Pos}
@@ -9,7 +9,9 @@ use Rattle.lx_ccode.specs.declared.piece.LineMark.{LineMark}
 use Rattle.lx_ccode.specs.declared.piece.Piece.{Piece}
 use Rattle.lx_gen.specs.Generated.{AreAutomataUnder, AreRightUnder, IsGenerated, marks_of}
 use Rattle.lx_layout.specs.LiveBlocks.{IsLive}
+use Rattle.lx_regex.specs.declared.rules.Rule.{Rule}
 use Rattle.lx_rules.specs.declared.resolved.Resolved.{Resolved}
+use Rattle.lx_rules.specs.declared.resolved.Scanner.{Scanner}
 use Rattle.lx_compile.specs.Covering.{AreCovered}
 use Rattle.lx_compile.specs.Options.{policy_of}
 use Rattle.lx_compile.specs.Reduced.{IsReduced}
@@ -43,13 +45,23 @@ pub record IsScannerPiece (setting : Setting) (number first_state : ℕ) (line :
   -- no block is dead
   pub live : (block : ℕ) → block < length piece.blocks → IsLive piece block
 
+-- the greatest number of groups of a rule, the whole match counted, or 0
+abbrev pub groups_in_rules : List Rule → ℕ
+groups_in_rules [] = 0
+groups_in_rules (rule ∷ rules) = max rule.groups (groups_in_rules rules)
+
+-- the same of all rules of scanners: it is no matter whether a rule is ever chosen
+abbrev pub groups_in_scanners : List Scanner → ℕ
+groups_in_scanners [] = 0
+groups_in_scanners (scanner ∷ scanners) = max (groups_in_rules scanner.set.rules) (groups_in_scanners scanners)
+
 -- This is made of what a block gives, whose opener stands at a place and whose end in a line, where the piece has this number and its states are
--- numbered from a first one on; behind it they are from `next` on. With a piece of scanners stand their warnings, and the text of their
--- covering words.
+-- numbered from a first one on; behind it they are from `next` on. With a piece of scanners stand their warnings, the text of their
+-- covering words, and the greatest number of groups of their rules.
 abbrev pub IsMadeOf : Setting → (number first_state next : ℕ) → Pos → (line : ℕ) → Content → Made → Type 0
-IsMadeOf setting number first_state next at line (Scanners resolved) (made.Scanners piece checks warnings cover) =
+IsMadeOf setting number first_state next at line (Scanners resolved) (made.Scanners piece checks warnings cover groups) =
     IsScannerPiece setting number first_state (line_mark setting at line) resolved piece checks × AreWarned setting.options at resolved warnings × AreCovered setting.options number resolved cover
-    × (next ≡ first_state + state_count piece.blocks)
+    × (next ≡ first_state + state_count piece.blocks) × (groups ≡ groups_in_scanners resolved.scanners)
 IsMadeOf setting number first_state next at line (Asks directive) (made.Bare place mark other) =
     (place ≡ at) × (mark ≡ line_mark setting at line) × (other ≡ directive) × (next ≡ first_state)
 IsMadeOf setting number first_state next at line content one = ⊥

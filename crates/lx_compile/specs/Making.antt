@@ -35,7 +35,7 @@ start_of (piece ∷ pieces) = Some (record { number = piece.number; conds = piec
 -- these are the facts of all that is made
 pub record AreFacts (facts : Facts) (made : List Made) : Type 0 where
   pub units : facts.units ≡ units_of made
-  pub groups : facts.groups ≡ groups_of (pieces_among made)
+  pub groups : facts.groups ≡ groups_of made
   pub registers : facts.registers ≡ registers_of (pieces_among made)
   pub histories : facts.histories ≡ histories_of (pieces_among made)
   pub conds : facts.conds ≡ conditions_of (pieces_among made)

@@ -54,7 +54,7 @@ AreWarned options at resolved warnings = AreWarnedWhere (tells_warnings options)
 
 -- those that stand with what is made of a part
 abbrev pub warnings_in : Made → List PlacedWarning
-warnings_in (Scanners piece checks warnings cover) = warnings
+warnings_in (Scanners piece checks warnings cover groups) = warnings
 warnings_in other = []
 
 -- those of all that is made, in order

@@ -30,7 +30,7 @@ module _ (names : Spellings) (out : List ℕ) (all : List Made) where
   -- the text of one that is made, which begins in a line
   abbrev pub made_text : (number line : ℕ) → Made → List ℕ
   made_text number line (Outside text) = text
-  made_text number line (Scanners piece checks warnings cover) = piece_text (place_of out line piece) piece
+  made_text number line (Scanners piece checks warnings cover groups) = piece_text (place_of out line piece) piece
   made_text number line (Bare at mark directive) = body_piece_text number names (body_of all directive) mark
 
   -- the text of some of what is made, one behind another
@@ -45,7 +45,7 @@ output_text names out made = text_among names out made 1 1 made
 
 -- a piece of scanners is valid
 abbrev pub IsPrintable : Made → Type 0
-IsPrintable (Scanners piece checks warnings cover) = IsValid piece
+IsPrintable (Scanners piece checks warnings cover groups) = IsValid piece
 IsPrintable one = Unit {0}
 
 -- a call that may find this fault stops with it, or where memory runs out

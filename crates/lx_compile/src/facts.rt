@@ -1,9 +1,7 @@
 //! What directives may ask of all pieces of an output.
 ghost use Rattle.std.specs.Prelude.{◌≡◌, ◌≤◌, ◌^◌, ◌++◌, ◌&&◌, ◌==◌, not, All, IfOk, OnOk};
 ghost use Rattle.std.specs.List.{list_any};
-ghost use Rattle.lx_ccode.specs.Counts.{greatest_of};
-ghost use Rattle.lx_ccode.specs.Statements.{all_statements};
-ghost use Rattle.lx_compile.specs.Facts.{conditions_of, file_states, greatest_in, groups_in, groups_of, histories_of, history_count, is_marker_alone, last_register, piece_states, pieces_among, registers_of, spells_first, units_of, with_conditions};
+ghost use Rattle.lx_compile.specs.Facts.{conditions_of, file_states, greatest_in, groups_of, histories_of, history_count, is_marker_alone, last_register, piece_states, pieces_among, registers_of, spells_first, units_of, with_conditions};
 ghost use Rattle.lx_compile.specs.Making.{AreAsked, AreFacts, asks, seen_conditions, seen_pieces, start_of};
 ghost use Rattle.lx_compile.specs.Writing.{IsPrintable};
 ghost use Rattle.lx_ccode.specs.declared.piece.Piece.{Piece as piece_type};
@@ -12,7 +10,7 @@ use crate::made::Made;
 use crate::parts::Directive;
 use indexmap::IndexSet;
 use lx_base::{ByteText, Memory, Sequence};
-use lx_ccode::{CodeBlock, CondCase, FileState, Piece, Stmt, mregs_of, regs_of};
+use lx_ccode::{CondCase, FileState, Piece, mregs_of, regs_of};
 use lx_fill::{CheckList, max_fill};
 use lx_layout::{names_register_one, state_cases};
 use lx_renumber::Repeats;
@@ -31,7 +29,7 @@ pub(crate) struct Start {
 pub(crate) struct Facts {
     /// The greatest number of units that a check asks for, at least 1.
     pub units: u32,
-    /// The greatest number of groups of a rule, at least 1.
+    /// The greatest number of groups of a rule of the file's scanners, at least 1.
     pub groups: u32,
     /// The registers that are listed, counted from 1.
     pub registers: Sequence<u32>,
@@ -96,37 +94,15 @@ fn units_of(made: &[Made]) -> u32
     most
 }
 
-/// The greatest number of groups that statements tell of, or 0.
-fn groups_among(statements: &[Stmt]) -> u32
-    ensures { result ≡ greatest_of groups_in statements.now }
-{
-    let mut most = 0;
-    for statement in statements {
-        if let Stmt::Count(groups) = statement {
-            most = most.max(*groups);
-        }
-    }
-    most
-}
-
-/// The same of the statements of blocks.
-fn groups_in_blocks(blocks: &[CodeBlock]) -> u32
-    ensures { result ≡ greatest_of groups_in (all_statements blocks.now) }
-{
-    let mut most = 0;
-    for block in blocks {
-        most = most.max(groups_among(block.stmts.as_slice()));
-    }
-    most
-}
-
-/// The greatest number of groups, at least 1.
-fn groups_of(pieces: &[&Piece]) -> u32
-    ensures { result ≡ groups_of (seen_pieces pieces.now) }
+/// The greatest number of groups of a rule of the file's scanners, at least 1.
+fn groups_of(made: &[Made]) -> u32
+    ensures { result ≡ groups_of made.now }
 {
     let mut most = 1;
-    for piece in pieces {
-        most = most.max(groups_in_blocks(piece.blocks.as_slice()));
+    for one in made {
+        if let Made::Scanners { groups, .. } = one {
+            most = most.max(*groups);
+        }
     }
     most
 }
@@ -353,7 +329,7 @@ fn facts_among(alloc: Global, made: &[Made], pieces: &[&Piece]) -> Result<Facts,
     let (states, start) = states_and_start(alloc, pieces)?;
     Ok(Facts {
         units: units_of(made),
-        groups: groups_of(pieces),
+        groups: groups_of(made),
         registers,
         histories,
         conds,

@@ -20,6 +20,8 @@ pub enum Made {
         warnings: Sequence<PlacedWarning>,
         /// The text that tells the covering words of the scanners; empty where they are not asked for.
         cover: ByteText,
+        /// The greatest number of groups of a rule of the scanners, also of one that is never chosen; 0 without captures.
+        groups: u32,
     },
     /// A block without scanners.
     Bare {

@@ -4,7 +4,7 @@ ghost use Rattle.lx_ccode.specs.Counts.{state_count};
 ghost use Rattle.lx_ccode.specs.Validity.{IsLine};
 ghost use Rattle.lx_compile.specs.Covering.{AreCovered};
 ghost use Rattle.lx_compile.specs.Emittable.{CanBeMade, HasMakeable, IsMakeable};
-ghost use Rattle.lx_compile.specs.Made.{AreMade, IsMadeOf, IsScannerPiece, line_mark};
+ghost use Rattle.lx_compile.specs.Made.{AreMade, IsMadeOf, IsScannerPiece, groups_in_rules, groups_in_scanners, line_mark};
 ghost use Rattle.lx_compile.specs.Making.{seen_frame};
 ghost use Rattle.lx_compile.specs.Models.{AreMadeFor, IsKept, IsModel};
 ghost use Rattle.lx_compile.specs.Warnings.{AreWarned};
@@ -20,8 +20,9 @@ use lx_base::{ByteText, Memory, Options, Pos, Sequence, Stop};
 use lx_ccode::{LineMark, Piece};
 use lx_fill::CheckList;
 use lx_gen::{Generated, generate};
+use lx_regex::Rule;
 use lx_renumber::Repeats;
-use lx_rules::Resolved;
+use lx_rules::{Resolved, Scanner};
 use lx_shared::SharedText;
 use std::alloc::Global;
 
@@ -86,6 +87,35 @@ fn block_automata(
     automata_of(alloc, &frame, before, resolved.scanners.as_slice())
 }
 
+/// The greatest number of groups of a rule, the whole match counted, or 0.
+fn groups_in_rules(rules: &[Rule]) -> u32
+    ensures { result ≡ groups_in_rules rules.now }
+{
+    let mut most = 0;
+    for rule in rules {
+        most = most.max(rule.groups);
+    }
+    most
+}
+
+/// The same of all rules of scanners.
+fn groups_in_scanners(scanners: &[Scanner]) -> u32
+    ensures { result ≡ groups_in_scanners scanners.now }
+{
+    let mut most = 0;
+    for scanner in scanners {
+        most = most.max(groups_in_rules(scanner.set.rules.as_slice()));
+    }
+    most
+}
+
+/// The greatest number of groups of a rule of a block's scanners, also of one that is never chosen; 0 without captures.
+fn block_groups(resolved: &Resolved) -> u32
+    ensures { result ≡ groups_in_scanners resolved.now.scanners }
+{
+    groups_in_scanners(resolved.scanners.as_slice())
+}
+
 /// What is made of a block's scanners.
 #[derive(Drop)]
 struct Scanned {
@@ -94,6 +124,7 @@ struct Scanned {
     checks: Repeats<CheckList>,
     warnings: Sequence<PlacedWarning>,
     cover: ByteText,
+    groups: u32,
 }
 
 /// The piece of a block's scanners, whose opener stands at `at`, the checks of its automata, the warnings, and the text of the covering words;
@@ -116,6 +147,7 @@ fn scanner_piece(
         (λ answer. IsScannerPiece (seen_frame frame.now) numbers.piece numbers.state line resolved answer.piece answer.checks
         × AreWarned frame.now.options.now at resolved answer.warnings
         × AreCovered frame.now.options.now numbers.piece resolved answer.cover
+        × (answer.groups ≡ groups_in_scanners resolved.scanners)
         × AreFaultless frame.now.options.now resolved.scanners
         × IfSome answer.kept (IsKept frame.now.options.now))
         (StopsWithFault (IsFaultOfScanners frame.now.options.now at resolved.scanners)) }
@@ -126,6 +158,7 @@ fn scanner_piece(
         return Err(Stop::Memory);
     }
     let warnings = block_warnings(alloc, options, at, &resolved, autos.as_slice())?;
+    let groups = block_groups(&resolved);
     let Generated { piece, scanners } = generate(
         alloc,
         resolved,
@@ -144,6 +177,7 @@ fn scanner_piece(
         checks,
         warnings,
         cover: ByteText::from_vec(cover),
+        groups,
     })
 }
 
@@ -194,6 +228,7 @@ fn make_block(
                 checks,
                 warnings,
                 cover,
+                groups,
             } = scanner_piece(alloc, frame, numbers, at, line, before, resolved)?;
             let next = next_state(numbers.state, &piece)?;
             *kept = first;
@@ -202,6 +237,7 @@ fn make_block(
                 checks,
                 warnings,
                 cover,
+                groups,
             };
             Ok((made, next))
         }

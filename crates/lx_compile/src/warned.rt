@@ -183,6 +183,7 @@ fn warnings_in(alloc: Global, one: Made) -> Sequence<PlacedWarning>
             checks: _checks,
             warnings,
             cover: _cover,
+            groups: _groups,
         } => warnings,
         Made::Outside(_text) => Sequence::new(alloc),
         Made::Bare {

@@ -1,7 +1,7 @@
 //! Decides which switches over units are right.
-ghost use Rattle.std.specs.Prelude.{◌≡◌, ◌<◌, ◌++◌, ◌↔◌, ℕ, List, IsTrue, false, length, true};
+ghost use Rattle.std.specs.Prelude.{◌≡◌, ◌<◌, ◌++◌, ◌↔◌, ℕ, List, IsTrue, None, false, length, slice_index_or, true};
 ghost use Rattle.std.specs.List.{AllByRecursion};
-ghost use Rattle.lx_ccode.specs.Machine.{has_unit, is_among};
+ghost use Rattle.lx_ccode.specs.Machine.{is_among};
 ghost use Rattle.lx_ccode.specs.Validity.{AreUnitsOnce, IsByte};
 ghost use Rattle.lx_dispatch.specs.FirstQuestions.{questions_of, seen_first};
 ghost use Rattle.lx_dispatch.specs.LeftUnits.{any_holds};
@@ -12,6 +12,7 @@ ghost use Rattle.lx_dispatch.specs.Views.{seen_stretches};
 use crate::first_questions::{FirstQuestion, any_holds, has_way};
 use crate::test_trees::UnitCase;
 use crate::unit_splits::{Stretch, same_place};
+use crate::unit_ways::set_all_ways;
 
 fn is_byte(number: u8) -> bool
     ensures { IsTrue result ↔ IsByte number }
@@ -100,30 +101,6 @@ fn have_ways(tests: &[Stretch], last: Option<usize>, cases: &[UnitCase]) -> bool
     true
 }
 
-/// Whether a unit stands in a list.
-fn has_unit(units: &[u8], unit: u32) -> bool
-    ensures { result ≡ has_unit units.now unit }
-{
-    for other in units {
-        if u32::from(*other) == unit {
-            return true;
-        }
-    }
-    false
-}
-
-/// How a unit goes by cases.
-fn way_in(cases: &[UnitCase], other: Option<usize>, unit: u32) -> Option<usize>
-    ensures { result ≡ way_in cases.now other unit }
-{
-    for case in cases {
-        if has_unit(case.units.as_slice(), unit) {
-            return case.class;
-        }
-    }
-    other
-}
-
 /// How a unit goes by stretches.
 pub(crate) fn class_on(tests: &[Stretch], last: Option<usize>, unit: u32) -> Option<usize>
     ensures { result ≡ class_on (seen_stretches tests.now) last unit }
@@ -134,6 +111,28 @@ pub(crate) fn class_on(tests: &[Stretch], last: Option<usize>, unit: u32) -> Opt
         }
     }
     last
+}
+
+/// Whether each byte on which first questions do not decide goes as by stretches.
+fn ways_lead(
+    table: &[u8],
+    first: &[FirstQuestion],
+    tests: &[Stretch],
+    last: Option<usize>,
+    ways: &[Option<usize>],
+) -> bool
+    requires { length ways.now ≡ 256 }
+    ensures { result ≡ true → (unit : ℕ) → unit < 256 → any_holds (is_among table.now) (questions_of (seen_first first.now)) unit ≡ false
+        → slice_index_or ways.now unit None ≡ class_on (seen_stretches tests.now) last unit }
+{
+    for unit in 0..256 {
+        let leads = any_holds(table, first, unit)
+            || same_place(ways[unit as usize], class_on(tests, last, unit));
+        if !leads {
+            return false;
+        }
+    }
+    true
 }
 
 /// Whether each byte on which first questions do not decide goes by cases as by stretches.
@@ -148,14 +147,9 @@ fn cases_lead(
     ensures { result ≡ true → (unit : ℕ) → unit < 256 → any_holds (is_among table.now) (questions_of (seen_first first.now)) unit ≡ false
         → way_in cases.now other unit ≡ class_on (seen_stretches tests.now) last unit }
 {
-    for unit in 0..256 {
-        let leads = any_holds(table, first, unit)
-            || same_place(way_in(cases, other, unit), class_on(tests, last, unit));
-        if !leads {
-            return false;
-        }
-    }
-    true
+    let mut ways = [other; 256];
+    set_all_ways(&mut ways, cases);
+    ways_lead(table, first, tests, last, &ways)
 }
 
 /// Whether a switch is right for the bytes on which first questions do not decide, which go by stretches.

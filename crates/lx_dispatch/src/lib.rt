@@ -13,6 +13,7 @@ mod unit_masks;
 mod unit_sets;
 mod unit_splits;
 mod unit_switches;
+mod unit_ways;
 
 pub use asking::{Asking, tests_of};
 pub use classes::{TransitionClass, TransitionClasses, class_place, transition_classes};

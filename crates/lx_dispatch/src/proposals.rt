@@ -12,14 +12,16 @@ use std::alloc::Global;
 /// From how many runs on a way may be asked for by a set.
 const LEAST_RUNS: u32 = 3;
 
+/// Of fewer tests no way has so many runs: between two runs of a way stands one of another way, and the last run has no test.
+const LEAST_TESTS: usize = 4;
+
 /// How many units of a set may go another way.
 const MOST_OTHERS: u32 = 4;
 
-/// A way, the units up to 0xFF that go it, and how many runs these are.
+/// A way, and how many runs of units up to 0xFF go it.
 #[derive(Clone, Copy)]
 struct Way {
     class: Option<usize>,
-    units: UnitMask,
     runs: u32,
 }
 
@@ -33,43 +35,48 @@ struct Choice {
     count: u32,
 }
 
-/// Adds a run, from a lowest unit up to a greatest one, to its way.
-fn add_run(
-    ways: &mut Vec<Way>,
-    class: Option<usize>,
-    low: u64,
-    greatest: u32,
-) -> Result<(), Memory> {
-    if low > 0xFF {
-        return Ok(());
-    }
-    let low = low as u32;
+/// Counts a run of a way that begins at a unit up to 0xFF.
+fn count_run(ways: &mut Vec<Way>, class: Option<usize>) -> Result<(), Memory> {
     for place in 0..ways.len() {
         let mut way = ways[place];
         if same_place(way.class, class) {
-            way.units.add(low, greatest);
             way.runs = way.runs.saturating_add(1);
             ways[place] = way;
             return Ok(());
         }
     }
-    let mut units = UnitMask::none();
-    units.add(low, greatest);
     let runs = 1;
-    ways.push(Way { class, units, runs })?;
+    ways.push(Way { class, runs })?;
     Ok(())
 }
 
 /// The ways of stretches.
 fn ways_of(alloc: Global, tests: &[Stretch], last: Option<usize>) -> Result<Vec<Way>, Memory> {
     let mut ways = Vec::new(alloc);
+    for stretch in tests {
+        count_run(&mut ways, stretch.class)?;
+        if stretch.greatest >= 0xFF {
+            return Ok(ways);
+        }
+    }
+    count_run(&mut ways, last)?;
+    Ok(ways)
+}
+
+/// The units up to 0xFF that go a way.
+fn units_of(class: Option<usize>, tests: &[Stretch], last: Option<usize>) -> UnitMask {
+    let mut units = UnitMask::none();
     let mut low = 0;
     for stretch in tests {
-        add_run(&mut ways, stretch.class, low, stretch.greatest)?;
-        low = u64::from(stretch.greatest) + 1;
+        if same_place(stretch.class, class) {
+            units.add(low, stretch.greatest);
+        }
+        low = stretch.greatest.saturating_add(1);
     }
-    add_run(&mut ways, last, low, 0xFF)?;
-    Ok(ways)
+    if same_place(last, class) {
+        units.add(low, 0xFF);
+    }
+    units
 }
 
 /// The number of a set, if it is one of some.
@@ -83,13 +90,13 @@ fn set_number(masks: &[UnitMask], set: &UnitMask) -> Option<u32> {
 }
 
 /// Which set is to be asked for a way: one that lacks fewest units of it, of equal ones the first.
-fn chosen_set(masks: &[UnitMask], way: &Way) -> Option<Choice> {
+fn chosen_set(masks: &[UnitMask], way: &Way, units: &UnitMask) -> Option<Choice> {
     let mut chosen: Option<Choice> = None;
     let mut least = MOST_OTHERS + 1;
     for (place, mask) in masks.iter().enumerate() {
-        let others = mask.without(&way.units);
+        let others = mask.without(units);
         let count = others.count();
-        if place < 64 && count < least && way.units.without(mask).is_empty() {
+        if place < 64 && count < least && units.without(mask).is_empty() {
             least = count;
             chosen = Some(Choice {
                 class: way.class,
@@ -130,11 +137,17 @@ fn better(found: Option<Choice>, choice: Option<Choice>) -> Option<Choice> {
 }
 
 /// Which way is to be asked for first, and by which set.
-fn chosen_way(masks: &[UnitMask], ways: &[Way]) -> Option<Choice> {
+fn chosen_way(
+    masks: &[UnitMask],
+    ways: &[Way],
+    tests: &[Stretch],
+    last: Option<usize>,
+) -> Option<Choice> {
     let mut chosen = None;
     for way in ways {
         if way.runs >= LEAST_RUNS {
-            chosen = better(chosen, chosen_set(masks, way));
+            let units = units_of(way.class, tests, last);
+            chosen = better(chosen, chosen_set(masks, way, &units));
         }
     }
     chosen
@@ -202,8 +215,11 @@ pub(crate) fn proposed(
         first.push(question)?;
         return Ok(first);
     }
+    if tests.len() < LEAST_TESTS {
+        return Ok(first);
+    }
     let ways = ways_of(alloc, tests, last)?;
-    match chosen_way(masks, &ways) {
+    match chosen_way(masks, &ways, tests, last) {
         Some(choice) => questions_for(alloc, &choice, tests, last),
         None => Ok(first),
     }

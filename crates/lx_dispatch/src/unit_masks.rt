@@ -19,6 +19,14 @@ fn bits_of(base: u32, low: u32, high: u32) -> u64
     (u64::MAX << (from - base)) & (u64::MAX >> (base + 63 - to))
 }
 
+/// The first unit among bits of a word whose first unit is `base`.
+fn first_bit(base: u32, bits: u64) -> Option<u32> {
+    if bits == 0 {
+        return None;
+    }
+    Some(base.saturating_add(bits.trailing_zeros()))
+}
+
 impl UnitMask {
     /// No unit.
     pub fn none() -> Self {
@@ -84,11 +92,9 @@ impl UnitMask {
 
     /// The first of them that is no less than a unit.
     pub fn first_from(&self, low: u32) -> Option<u32> {
-        for unit in low..256 {
-            if self.has(unit) {
-                return Some(unit);
-            }
-        }
-        None
+        first_bit(0, self.words[0] & bits_of(0, low, 0xFF))
+            .or(first_bit(64, self.words[1] & bits_of(64, low, 0xFF)))
+            .or(first_bit(128, self.words[2] & bits_of(128, low, 0xFF)))
+            .or(first_bit(192, self.words[3] & bits_of(192, low, 0xFF)))
     }
 }

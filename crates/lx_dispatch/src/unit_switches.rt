@@ -5,40 +5,54 @@ use crate::unit_splits::{Stretch, same_place};
 use lx_base::Memory;
 use std::alloc::Global;
 
-/// Appends a unit to the case of its class, which is made where there is none.
-fn push_unit(
+/// The place of the case of a class, which is made where there is none.
+fn case_place(
     alloc: Global,
     cases: &mut Vec<UnitCase>,
     class: Option<usize>,
-    unit: u8,
-) -> Result<(), Memory> {
+) -> Result<usize, Memory> {
     for place in 0..cases.len() {
         if same_place(cases[place].class, class) {
-            cases[place].units.push(unit)?;
-            return Ok(());
+            return Ok(place);
         }
     }
-    let mut units = Vec::new(alloc);
-    units.push(unit)?;
+    let units = Vec::new(alloc);
+    let place = cases.len();
     cases.push(UnitCase { units, class })?;
-    Ok(())
+    Ok(place)
 }
 
-/// Appends the bytes from a lowest one up to a greatest one on which first questions do not decide to the case of their class.
-fn push_units(
+/// The bytes from a lowest one up to a greatest one on which first questions do not decide.
+fn left_units(
     alloc: Global,
-    cases: &mut Vec<UnitCase>,
     table: &[u8],
     first: &[FirstQuestion],
     low: u64,
     greatest: u32,
-    class: Option<usize>,
-) -> Result<(), Memory> {
+) -> Result<Vec<u8>, Memory> {
+    let mut units = Vec::new(alloc);
     let end = u64::from(greatest.min(0xFF)) + 1;
     for unit in low..end {
         if !any_holds(table, first, unit as u32) {
-            push_unit(alloc, cases, class, unit as u8)?;
+            units.push(unit as u8)?;
         }
+    }
+    Ok(units)
+}
+
+/// Appends units to the case of their class.
+fn push_units(
+    alloc: Global,
+    cases: &mut Vec<UnitCase>,
+    class: Option<usize>,
+    units: &[u8],
+) -> Result<(), Memory> {
+    if units.is_empty() {
+        return Ok(());
+    }
+    let place = case_place(alloc, cases, class)?;
+    if let Some(case) = cases.get_mut(place) {
+        case.units.extend_from_slice(units)?;
     }
     Ok(())
 }
@@ -54,18 +68,12 @@ pub(crate) fn all_cases(
     let mut cases = Vec::new(alloc);
     let mut low = 0;
     for stretch in tests {
-        push_units(
-            alloc,
-            &mut cases,
-            table,
-            first,
-            low,
-            stretch.greatest,
-            stretch.class,
-        )?;
+        let units = left_units(alloc, table, first, low, stretch.greatest)?;
+        push_units(alloc, &mut cases, stretch.class, units.as_slice())?;
         low = u64::from(stretch.greatest) + 1;
     }
-    push_units(alloc, &mut cases, table, first, low, 0xFF, last)?;
+    let units = left_units(alloc, table, first, low, 0xFF)?;
+    push_units(alloc, &mut cases, last, units.as_slice())?;
     Ok(cases)
 }
 

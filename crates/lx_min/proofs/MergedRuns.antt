@@ -129,6 +129,7 @@ module _ (given answer : Auto) (classes : Classes) (is : IsMerge given answer cl
   HasSameRun-merged start bank empty = (
     bank,
     empty,
+    λ nothing. nothing,
     λ word. subst
         (λ state. FindSame answer given (run answer (standing state start bank None) word) (run given (standing 0 start bank None) word))
         is.are.start (run-merged word 0 (None, begins) start bank None None tt),

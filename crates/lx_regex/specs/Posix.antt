@@ -83,6 +83,11 @@ module _ (enc : Enc) where
   abbrev pub whole : {e : Term} → Tree e → ℕ
   whole tree = suc (size (shape_of tree))
 
+  -- two trees have equal lengths at all positions
+  abbrev pub HaveEqualLengths : {e : Term} → Tree e → Tree e → Type 0
+  HaveEqualLengths tree other =
+      (position : List ℕ) → length_at (whole tree) (shape_of tree) position ≡ length_at (whole other) (shape_of other) position
+
   -- at the first position where two trees differ in length the first one is longer; preorder is the order of a dictionary
   abbrev pub IsLonger : {e : Term} → Tree e → Tree e → Type 0
   IsLonger tree other =

@@ -11,7 +11,8 @@ ghost use Rattle.lx_regex.specs.Match.{IsMatch, Outcome, part_at};
 ghost use Rattle.lx_regex.specs.Order.{Policy};
 ghost use Rattle.lx_regex.specs.Parts.{IsBeginning, Part, parts_in, parts_of};
 ghost use Rattle.lx_regex.specs.Pattern.{Pattern, terms_of, with_terms};
-ghost use Rattle.lx_regex.specs.Script.{Symbol, choices, script};
+ghost use Rattle.lx_regex.specs.Posix.{HaveEqualLengths};
+ghost use Rattle.lx_regex.specs.Script.{Symbol, choices, script, units};
 ghost use Rattle.lx_regex.specs.Term.{Term, parts};
 ghost use Rattle.lx_regex.specs.Tree.{Tree};
 ghost use Rattle.lx_regex.specs.Values.{last_event, value_of};
@@ -47,6 +48,16 @@ pub fn least_script_is_unique()
         → script enc part tree ≡ script enc part other }
     ensures values { (policy : Policy) (enc : Enc) (part : ℕ) (e : Term) (word : List ℕ) (tree other : Tree e) (start number : ℕ) (many : Bool) → 0 < part
         → IsLeast policy enc part e word tree → IsLeast policy enc part e word other
+        → value_of start (script enc part tree) number many ≡ value_of start (script enc part other) number many }
+{}
+
+/// Trees over the same units that have equal lengths at all positions have one script, and so one value for each tag: the POSIX order
+/// tells apart what differs in what it does (Okui and Suzuki 2010).
+pub fn equal_lengths_have_one_script()
+    ensures script { (enc : Enc) (part : ℕ) (e : Term) (tree other : Tree e) → units (script enc part tree) ≡ units (script enc part other)
+        → HaveEqualLengths enc tree other → script enc part tree ≡ script enc part other }
+    ensures values { (enc : Enc) (part : ℕ) (e : Term) (tree other : Tree e) (start number : ℕ) (many : Bool)
+        → units (script enc part tree) ≡ units (script enc part other) → HaveEqualLengths enc tree other
         → value_of start (script enc part tree) number many ≡ value_of start (script enc part other) number many }
 {}
 

@@ -16,7 +16,7 @@ use Rattle.lx_base.specs.declared.settings.Options.{Options}
 use Rattle.lx_base.specs.Letters.{after_letters, begins_with, front_letters, is_digit}
 use Rattle.lx_base.specs.Names.{Spellings, DoNotClash, IsTagName, begins_table, label_prefix, name_primitives, name_table}
 use Rattle.lx_parse.specs.declared.items.Item.{Item}
-use Rattle.lx_regex.specs.Pattern.{Pattern, patterns_of}
+use Rattle.lx_regex.specs.Pattern.{Pattern, is_end, patterns_of}
 use Rattle.lx_regex.specs.declared.rules.Kind.{Kind}
 use Rattle.lx_regex.specs.declared.rules.Rule.{Rule}
 use Rattle.lx_regex.specs.declared.rules.Tag.{Tag}
@@ -32,7 +32,7 @@ use Rattle.lx_exprs.specs.Meanings.{behind}
 use Rattle.lx_rules.specs.Environments.{Environment, KeptBlock, config_of, first_environment}
 use Rattle.lx_rules.specs.Rules.{RuleOf}
 use Rattle.lx_exprs.specs.Checks.{Check, Then, Finds, is_among, tag_names}
-use Rattle.lx_rules.specs.Items.{State, first_state, Goes, is_default, is_end}
+use Rattle.lx_rules.specs.Items.{State, first_state, Goes, is_default}
 
 -- the condition of `<*>`
 abbrev pub every : List ℕ

@@ -28,7 +28,8 @@ use Rattle.lx_rules.specs.declared.resolved.Scanner.{Scanner}
 use Rattle.lx_rules.specs.Blocks.{BlockChecks, ClashCheck, IsResolvedAs, IsScanner, conditions_of, environment_behind, every, lonely_fault, pair_fault, rules_of, scanner_fault, target_fault, targets_fault}
 use Rattle.lx_rules.specs.Conditions.{nothing_runs, running_with}
 use Rattle.lx_rules.specs.Environments.{Environment, config_of}
-use Rattle.lx_rules.specs.Items.{State, is_default, is_end}
+use Rattle.lx_regex.specs.Pattern.{is_end}
+use Rattle.lx_rules.specs.Items.{State, is_default}
 use Rattle.lx_rules.specs.Rules.{RuleOf}
 use Rattle.lx_rules.specs.FitScanners.{FitsLimits, IsFit}
 

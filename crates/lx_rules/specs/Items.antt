@@ -12,6 +12,7 @@ use Rattle.lx_parse.specs.declared.items.Item.{Item}
 use Rattle.lx_parse.specs.declared.items.Item.TheVariants.{Define, Configure, Rule, Text}
 use Rattle.lx_parse.specs.declared.sorts.Sort.{Sort}
 use Rattle.lx_parse.specs.declared.sorts.Sort.TheVariants.{Star, Dollar}
+use Rattle.lx_regex.specs.Pattern.{is_end}
 use Rattle.lx_regex.specs.Term.{Term, any_unit, empty, group, tag}
 use Rattle.lx_regex.specs.declared.rules.Kind.{Kind}
 use Rattle.lx_regex.specs.declared.rules.Kind.TheVariants as kind
@@ -123,17 +124,13 @@ head_sort Star = any
 head_sort Dollar = end
 head_sort other = expression
 
--- the place of the first rule of a kind that has one of these conditions
+-- the rule `*`
 abbrev pub is_default : Kind → Bool
 is_default kind.Plain = false
 is_default kind.Default = true
 is_default kind.Eof = false
 
-abbrev pub is_end : Kind → Bool
-is_end kind.Plain = false
-is_end kind.Default = false
-is_end kind.Eof = true
-
+-- the place of the first rule of a kind that has one of these conditions
 abbrev pub first_of : (Kind → Bool) → (conds : List (List ℕ)) → List RuleOf → Option Pos
 first_of test conds [] = None
 first_of test conds (rule ∷ rules) =

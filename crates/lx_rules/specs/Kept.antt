@@ -16,7 +16,8 @@ use Rattle.lx_rules.specs.declared.conditions.Running.{Running}
 use Rattle.lx_rules.specs.declared.kept.KeptRule.{KeptRule}
 use Rattle.lx_rules.specs.Blocks.{conditions_of, nesting_of, not_of_kind, rules_under, size_of, tags_of}
 use Rattle.lx_rules.specs.Conditions.{AreNumbers, cond_names, conds_seen, places_of, running_of, standing_of}
-use Rattle.lx_rules.specs.Items.{end_meaning, is_default, is_end}
+use Rattle.lx_regex.specs.Pattern.{is_end}
+use Rattle.lx_rules.specs.Items.{end_meaning, is_default}
 use Rattle.lx_rules.specs.Rules.{RuleOf}
 
 -- the rules but for `*`, which costs next to nothing, and `$`, which costs nothing

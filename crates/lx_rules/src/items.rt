@@ -65,7 +65,8 @@ impl Known {
     ghost use Rattle.lx_parse.specs.Ranges.{IsPart, HasExpressions};
     ghost use Rattle.lx_parse.specs.declared.items.Item.TheVariants as item;
     ghost use Rattle.lx_rules.specs.Conditions.{AreConds, HasConds};
-    ghost use Rattle.lx_rules.specs.Items.{State, ItemChecks, first_of, is_default, is_end, with_rule};
+    ghost use Rattle.lx_regex.specs.Pattern.{is_end};
+    ghost use Rattle.lx_rules.specs.Items.{State, ItemChecks, first_of, is_default, with_rule};
     ghost use Rattle.lx_rules.specs.Rules.{RuleOf};
     ghost use Rattle.lx_rules.specs.Keeping.{Holds, IsTaken, IsNew};
     ghost use Rattle.lx_exprs.specs.Checks.{StopsAt};

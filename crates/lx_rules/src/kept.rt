@@ -1,6 +1,7 @@
 //! Rules as they are kept.
 ghost use Rattle.std.specs.Prelude.{◌≡◌};
-ghost use Rattle.lx_rules.specs.Items.{is_default, is_end};
+ghost use Rattle.lx_regex.specs.Pattern.{is_end};
+ghost use Rattle.lx_rules.specs.Items.{is_default};
 
 use crate::conditions::{Conds, Running};
 use lx_base::Pos;

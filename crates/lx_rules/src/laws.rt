@@ -29,7 +29,8 @@ pub fn blocks_resolve_or_have_a_fault()
         ((fault : Fault) → IsBlockFault options kind at environment (lexemes_of body tokens) items fault → ⊥) → ⊥ }
 {}
 
-/// A block resolves in one way, as far as definitions tell results apart, or it has one fault, and not both.
+/// A block resolves in one way, or it has one fault, and not both: its actions, its configuration, the conditions of its scanners, and their
+/// rules with the names of their tags are determined. Of expressions it is their terms that are.
 pub fn blocks_resolve_in_one_way()
     ensures alike { (options : Options) (kind : BlockKind) (at : Pos) (environment after other : Environment) (lexemes : List Lexeme) (items : List Item) (resolved another : Resolved) →
         HasRules kind → Resolves options kind at environment lexemes items after resolved → Resolves options kind at environment lexemes items other another →

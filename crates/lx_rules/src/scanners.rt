@@ -6,7 +6,8 @@ ghost use Rattle.lx_rules.specs.Blocks.{cond_name, conditions_of, pair_fault, ru
 ghost use Rattle.lx_rules.specs.Conditions.{nothing_runs, places_of};
 ghost use Rattle.lx_rules.specs.Finishing.{IsBuiltScanner, kept_defaults, kept_fault, kept_at, kept_in_order, kept_others, kept_rules_of, running_fault, running_over};
 ghost use Rattle.lx_rules.specs.Environments.{config_of};
-ghost use Rattle.lx_rules.specs.Items.{State, is_default, is_end};
+ghost use Rattle.lx_regex.specs.Pattern.{is_end};
+ghost use Rattle.lx_rules.specs.Items.{State, is_default};
 ghost use Rattle.lx_rules.specs.Keeping.{Holds};
 ghost use Rattle.lx_rules.specs.Seen.{rules_view};
 ghost use Rattle.lx_rules.specs.declared.kept.KeptRule.{KeptRule as kept_rule};

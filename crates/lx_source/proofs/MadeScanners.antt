@@ -20,8 +20,9 @@ pub record HasOneScanner (all : List Made) : Type 0 where
   pub checks : List (List ℕ)
   pub warnings : List PlacedWarning
   pub cover : List ℕ
+  pub groups : ℕ
   pub text : List ℕ
-  pub all_is : all ≡ made.Scanners piece checks warnings cover ∷ made.Outside text ∷ []
+  pub all_is : all ≡ made.Scanners piece checks warnings cover groups ∷ made.Outside text ∷ []
   pub valid : IsValid piece
   pub unit : piece.unit ≡ 1
   pub placed : IsPlaced None piece
@@ -36,19 +37,20 @@ module _ (names : List (List ℕ)) (own_switch : Bool) where
   one_scanner place line resolved text [] are = absurd are
   one_scanner place line resolved text (made.Outside other ∷ all) are = absurd are.1
   one_scanner place line resolved text (made.Bare at mark directive ∷ all) are = absurd are.1
-  one_scanner place line resolved text (made.Scanners piece checks warnings cover ∷ []) are = absurd are.2
-  one_scanner place line resolved text (made.Scanners piece checks warnings cover ∷ made.Outside other ∷ []) are =
+  one_scanner place line resolved text (made.Scanners piece checks warnings cover groups ∷ []) are = absurd are.2
+  one_scanner place line resolved text (made.Scanners piece checks warnings cover groups ∷ made.Outside other ∷ []) are =
       let old : is_three piece.head ≡ false = ap is_three are.1.0.generated.fields.head in record {
         piece = piece;
         checks = checks;
         warnings = warnings;
         cover = cover;
+        groups = groups;
         text = other;
         all_is = refl;
         valid = are.1.0.generated.valid;
         unit = are.1.0.generated.fields.unit;
         placed = record { line = tt; stands = rw old refl };
       }
-  one_scanner place line resolved text (made.Scanners piece checks warnings cover ∷ made.Outside other ∷ one ∷ all) are = absurd are.2.1
-  one_scanner place line resolved text (made.Scanners piece checks warnings cover ∷ made.Scanners other more others words ∷ all) are = absurd are.2
-  one_scanner place line resolved text (made.Scanners piece checks warnings cover ∷ made.Bare at mark directive ∷ all) are = absurd are.2
+  one_scanner place line resolved text (made.Scanners piece checks warnings cover groups ∷ made.Outside other ∷ one ∷ all) are = absurd are.2.1
+  one_scanner place line resolved text (made.Scanners piece checks warnings cover groups ∷ made.Scanners other more others words count ∷ all) are = absurd are.2
+  one_scanner place line resolved text (made.Scanners piece checks warnings cover groups ∷ made.Bare at mark directive ∷ all) are = absurd are.2

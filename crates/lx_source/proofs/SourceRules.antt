@@ -14,14 +14,14 @@ use Rattle.lx_ccode.proofs.UsualNames.{DoNotClash-usual}
 use Rattle.lx_exprs.specs.Checks.{Check, Finds, Then, is_among}
 use Rattle.lx_exprs.specs.Defined.{Meaning, term_of_meaning}
 use Rattle.lx_exprs.specs.Meanings.{behind}
-use Rattle.lx_regex.specs.Pattern.{terms_of}
+use Rattle.lx_regex.specs.Pattern.{is_end, terms_of}
 use Rattle.lx_regex.specs.Term.{Term}
 use Rattle.lx_regex.specs.declared.rules.Kind.{Kind}
 use Rattle.lx_regex.specs.declared.rules.Kind.TheVariants.{Plain, Default}
 use Rattle.lx_regex.specs.declared.rules.Tag.{Tag}
 use Rattle.lx_rules.specs.Blocks.{ClashCheck, MayBeTag, NoClash, ScannerChecks, conditions_behind, conditions_of, every, is_bare, limits_fault, lonely_fault, nesting_of, not_of_kind, of_kind, own_or, pair_fault, pattern_of, rules_of, rules_under, scanner_fault, scanner_rules, scanners_fault, shared_beside, size_of, tags_of, targets_fault}
 use Rattle.lx_rules.specs.Environments.{Settings, no_settings}
-use Rattle.lx_rules.specs.Items.{State, any_meaning, as_rule, is_default, is_end}
+use Rattle.lx_rules.specs.Items.{State, any_meaning, as_rule, is_default}
 use Rattle.lx_rules.specs.Rules.{RuleOf}
 use Rattle.lx_source.proofs.WordExpressions.{word-size, word-term, word_meaning}
 use Rattle.lx_source.specs.GeneratedRules.{terms_from}

@@ -2,6 +2,7 @@ pub mod ClassParts
 pub mod Digits
 pub mod Ends
 pub mod Escapes
+pub mod HexadecimalDigits
 pub mod ItemCharacters
 pub mod Longest
 pub mod Nesting

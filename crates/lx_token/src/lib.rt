@@ -20,4 +20,5 @@ pub use classes::{Class, PointRange, class_of, classes_have_the_ranges_of_their_
 pub use kinds::{TokenKind, quoted_texts_are_items};
 pub use list::{Token, TokenList, tokens, tokens_stand_in_order};
 pub use numbers::{Number, Repeat, number_of, repeat_of};
+pub use quoted::hexadecimal_digits_are_one_set;
 pub use unclosed::{Unclosed, after_quote};

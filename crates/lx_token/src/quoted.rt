@@ -1,6 +1,7 @@
 //! Strings and classes, with their escapes.
-ghost use Rattle.std.specs.Prelude.{◌≡◌, ◌<◌, false, length, IfSome};
+ghost use Rattle.std.specs.Prelude.{◌≡◌, ◌<◌, ℕ, false, length, IfSome};
 ghost use Rattle.std.specs.Option.{option_copied};
+ghost use Rattle.lx_base.specs.Letters.{is_hexadecimal};
 ghost use Rattle.lx_token.specs.Quoted.{after_close, after_quoted, begins_with_digits, is_escape, is_hex_digit, is_octal_digit};
 
 use crate::words::after_letter;
@@ -92,3 +93,8 @@ pub(crate) fn after_quoted(text: &[u8], opener: u8, close: u8) -> Option<&[u8]>
 {
     after_close(after_letter(text, opener)?, close)
 }
+
+/// The digits of an escape are those of hexadecimal numbers, which have a value below 16.
+pub fn hexadecimal_digits_are_one_set()
+    ensures { (letter : ℕ) → is_hex_digit letter ≡ is_hexadecimal letter }
+{}

@@ -31,9 +31,9 @@ module _ (rules : ℕ) (all : List Made) (output : List ℕ) (few : rules ≤ 20
   made_one : HasOneScanner all
   made_one = output-scanner rules all output few is
 
-  found_one : IsFound (last_names is) (out_name source_options) all [] (made.Scanners made_one.piece made_one.checks made_one.warnings made_one.cover) output
+  found_one : IsFound (last_names is) (out_name source_options) all [] (made.Scanners made_one.piece made_one.checks made_one.warnings made_one.cover made_one.groups) output
   found_one =
-      is_found source_options (source_files rules) source_name output all source_name-plain tt (λ named. absurd (false≢true named)) is [] (made.Scanners made_one.piece made_one.checks made_one.warnings made_one.cover)
+      is_found source_options (source_files rules) source_name output all source_name-plain tt (λ named. absurd (false≢true named)) is [] (made.Scanners made_one.piece made_one.checks made_one.warnings made_one.cover made_one.groups)
       (made.Outside made_one.text ∷ []) made_one.all_is
 
   -- the line where it begins

@@ -17,4 +17,4 @@ mod warnings;
 pub use endings::{Ending, Halt};
 pub use lx_files::put_all;
 pub use lx_run::{RunEnd, run_window};
-pub use run::{re2c, refuse_words};
+pub use run::{answer, re2c, refuse_words};

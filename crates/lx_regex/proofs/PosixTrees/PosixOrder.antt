@@ -2,7 +2,7 @@
 use Rattle.std.specs.Prelude.{◌≡◌, ℕ, suc, ◌<◌, ◌⊎◌, List, [], ◌∷◌, refl}
 use Rattle.std.proofs.Common.{sym, ap₂, ◌∙◌, subst, arith, inl, inr, ⊎_elim}
 use Rattle.std.proofs.lemmas.Bool.{cases_order}
-use Rattle.lx_regex.specs.Posix.{IsLonger, length_at, shape_of, size, whole}
+use Rattle.lx_regex.specs.Posix.{HaveEqualLengths, IsLonger, length_at, shape_of, size, whole}
 use Rattle.lx_base.specs.declared.settings.Enc.{Enc}
 use Rattle.lx_regex.proofs.PosixTrees.PosixAhead.{ahead_wins, decide}
 use Rattle.lx_regex.specs.Dictionary.{IsBefore}
@@ -71,13 +71,8 @@ module _ (enc : Enc) {e : Term} where
       (λ p. length_at (whole enc t) (shape_of enc t) p) (λ p. length_at (whole enc t') (shape_of enc t') p)
       (λ p. length_at (whole enc t'') (shape_of enc t'') p) a b
 
-  -- the lengths of two trees at all positions
-  abbrev pub SameLengths : Tree e → Tree e → Type 0
-  SameLengths t t' =
-      (q : List ℕ) → length_at (whole enc t) (shape_of enc t) q ≡ length_at (whole enc t') (shape_of enc t') q
-
   pub precedes_total : (t t' : Tree e) → size (shape_of enc t) ≡ size (shape_of enc t')
-      → SameLengths t t' ⊎ (IsLonger enc t t' ⊎ IsLonger enc t' t)
+      → HaveEqualLengths enc t t' ⊎ (IsLonger enc t t' ⊎ IsLonger enc t' t)
   precedes_total t t' k =
       ⊎_elim
       (λ h.

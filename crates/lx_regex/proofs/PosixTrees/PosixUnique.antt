@@ -1,7 +1,7 @@
 -- Two trees over the same units that have equal lengths at all positions have one script.
 use Rattle.std.specs.Prelude.{◌≡◌, ℕ, zero, suc, ◌+◌, ◌-◌, ◌<◌, ◌⊎◌, List, [], ◌∷◌, ◌++◌, map, length, Option, None, Bool, true, false, ◌&&◌, nat_lt, nat_le, nat_eq, if◌then◌else◌, refl}
 use Rattle.std.proofs.Common.{sym, ap, ap₂, ◌∙◌, subst, arith, inl, inr, ⊎_elim, append-nil, length-append}
-use Rattle.lx_regex.specs.Posix.{IsLonger, Shape, Shapes, absent, shape_among, choice_shapes, inner, leaf, length_at, measure, more, iteration_shapes, row_shapes, shape_of, size, sizes, whole}
+use Rattle.lx_regex.specs.Posix.{HaveEqualLengths, IsLonger, Shape, Shapes, absent, shape_among, choice_shapes, inner, leaf, length_at, measure, more, iteration_shapes, row_shapes, shape_of, size, sizes, whole}
 use Rattle.lx_regex.proofs.PosixTrees.PosixShapes.{Same}
 use Rattle.lx_base.specs.declared.settings.Enc.{Enc}
 use Rattle.lx_base.specs.declared.settings.Enc.TheVariants.{Byte, Ucs2, Utf8, Utf16, Utf32}
@@ -9,7 +9,7 @@ use Rattle.lx_base.specs.Spelling.{spell}
 use Rattle.lx_regex.proofs.Walks.Fronts.{units_reads}
 use Rattle.lx_regex.proofs.Walks.PlainWalk.{units_append, units_label}
 use Rattle.lx_regex.proofs.PosixTrees.PosixAhead.{len, SameAmong}
-use Rattle.lx_regex.proofs.PosixTrees.PosixOrder.{SameLengths, precedes_total}
+use Rattle.lx_regex.proofs.PosixTrees.PosixOrder.{precedes_total}
 use Rattle.lx_regex.proofs.Walks.Readings.{code_quiet}
 use Rattle.lx_regex.specs.Reading.{of_point}
 use Rattle.lx_regex.specs.Automaton.{move}
@@ -262,7 +262,7 @@ module _ (enc : Enc) where
 
   -- trees over the same units with equal lengths have one script
   pub same_lengths_script :
-      {e : Term} → (p : ℕ) (t t' : Tree e) → units (script enc p t) ≡ units (script enc p t') → SameLengths enc t t'
+      {e : Term} → (p : ℕ) (t t' : Tree e) → units (script enc p t) ≡ units (script enc p t') → HaveEqualLengths enc t t'
       → script enc p t ≡ script enc p t'
   same_lengths_script p t t' u s =
       let z : size (shape_of enc t) ≡ size (shape_of enc t') = sym (count p t) ∙ ap length u ∙ count p t' in

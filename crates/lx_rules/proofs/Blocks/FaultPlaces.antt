@@ -25,7 +25,8 @@ use Rattle.lx_exprs.specs.Defined.{Definition, definition_of, kept}
 use Rattle.lx_rules.specs.Environments.{Environment, KeptBlock, config_of}
 use Rattle.lx_exprs.specs.Expressions.{ExpressionChecks}
 use Rattle.lx_exprs.specs.FaultPlaces.{StandsIn}
-use Rattle.lx_rules.specs.Items.{Goes, ends, refused, next, HeadChecks, HeadSort, any, end, expression, head_sort, IsAfter, ItemChecks, ListChecks, State, TargetChecks, conds_of, first_of, first_state, is_default, is_end, twice, unless}
+use Rattle.lx_regex.specs.Pattern.{is_end}
+use Rattle.lx_rules.specs.Items.{Goes, ends, refused, next, HeadChecks, HeadSort, any, end, expression, head_sort, IsAfter, ItemChecks, ListChecks, State, TargetChecks, conds_of, first_of, first_state, is_default, twice, unless}
 use Rattle.lx_rules.specs.Rules.{RuleOf}
 use Rattle.lx_forms.specs.Lexemes.{Lexeme, StandInFile, lexemes_of, nth_lexeme, sort_at}
 use Rattle.lx_forms.proofs.FilePlaces.{nth_lexeme-file, tokens_of-file}

@@ -16,7 +16,8 @@ use Rattle.lx_exprs.specs.Checks.{Check, Checks, Finds, IsIn, Then, are_groups, 
 use Rattle.lx_exprs.specs.Defined.{Definition, IsClassKept, IsDefined, IsTermKept, Meaning, class_in, definition_of, fits, is_built, meant_class, nothing, slash_tag, whole, whole_room}
 use Rattle.lx_forms.specs.Forms.{Form}
 use Rattle.lx_exprs.specs.Expressions.{ExpressionChecks, IsExpression}
-use Rattle.lx_rules.specs.Items.{Goes, HeadChecks, HeadSort, IsAfter, IsHead, ItemChecks, ListChecks, State, TargetChecks, act_of, RuleMeaning, any, any_meaning, behind_slash, conds_of, ends, end, end_meaning, expression, first_of, head_sort, is_end, next, twice, rule_of, with_rule}
+use Rattle.lx_regex.specs.Pattern.{is_end}
+use Rattle.lx_rules.specs.Items.{Goes, HeadChecks, HeadSort, IsAfter, IsHead, ItemChecks, ListChecks, State, TargetChecks, act_of, RuleMeaning, any, any_meaning, behind_slash, conds_of, ends, end, end_meaning, expression, first_of, head_sort, next, twice, rule_of, with_rule}
 use Rattle.lx_rules.specs.Rules.{RuleOf}
 use Rattle.lx_forms.specs.Lexemes.{Lexeme, nth_lexeme, sort_at}
 use Rattle.lx_exprs.specs.Meanings.{IsMeaning, term_or_empty}

@@ -22,7 +22,8 @@ use Rattle.lx_rules.specs.declared.environment.Setting.{Setting}
 use Rattle.lx_base.specs.declared.settings.Enc.{Enc}
 use Rattle.lx_exprs.specs.Defined.{Definition, IsClassKept, IsDefined, IsTermKept, Meaning, definition_of, is_built, kept, nothing, slash_tag, meant_class, term_of_meaning, whole, whole_room}
 use Rattle.lx_exprs.specs.Expressions.{ContextChecks, ExpressionChecks}
-use Rattle.lx_rules.specs.Items.{Goes, HeadChecks, HeadSort, IsAfter, IsHead, ItemChecks, ListChecks, State, TargetChecks, RuleMeaning, alone, any, any_meaning, as_rule, behind_slash, trailing, conds_of, ends, end, end_meaning, expression, first_of, head_sort, is_default, is_end, next, refused, twice, unless, rule_of}
+use Rattle.lx_regex.specs.Pattern.{is_end}
+use Rattle.lx_rules.specs.Items.{Goes, HeadChecks, HeadSort, IsAfter, IsHead, ItemChecks, ListChecks, State, TargetChecks, RuleMeaning, alone, any, any_meaning, as_rule, behind_slash, trailing, conds_of, ends, end, end_meaning, expression, first_of, head_sort, is_default, next, refused, twice, unless, rule_of}
 use Rattle.lx_forms.specs.Lexemes.{Lexeme, nth_lexeme, sort_at, sorts_at}
 use Rattle.lx_exprs.specs.Meanings.{set_term}
 use Rattle.lx_exprs.specs.Within.{AreDefinedWithin}

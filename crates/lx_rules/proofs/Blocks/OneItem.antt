@@ -19,7 +19,8 @@ use Rattle.lx_exprs.specs.Meanings.{IsMeaning}
 use Rattle.lx_rules.specs.Environments.{Environment, config_of, with_setting}
 use Rattle.lx_rules.specs.declared.environment.Setting.{Setting}
 use Rattle.lx_exprs.specs.Expressions.{ExpressionChecks}
-use Rattle.lx_rules.specs.Items.{Goes, ends, refused, next, HeadChecks, HeadSort, any, end, expression, IsAfter, IsHead, ItemChecks, ListChecks, State, TargetChecks, conds_of, first_of, first_state, head_sort, is_default, is_end, twice, unless, rule_of, with_definition, with_rule, with_settings, RuleMeaning, alone, as_rule, behind_slash, trailing}
+use Rattle.lx_regex.specs.Pattern.{is_end}
+use Rattle.lx_rules.specs.Items.{Goes, ends, refused, next, HeadChecks, HeadSort, any, end, expression, IsAfter, IsHead, ItemChecks, ListChecks, State, TargetChecks, conds_of, first_of, first_state, head_sort, is_default, twice, unless, rule_of, with_definition, with_rule, with_settings, RuleMeaning, alone, as_rule, behind_slash, trailing}
 use Rattle.lx_rules.specs.Rules.{RuleOf}
 use Rattle.lx_forms.specs.Lexemes.{Lexeme, nth_lexeme, sort_at}
 use Rattle.lx_rules.specs.declared.resolved.Resolved.{Resolved}
@@ -35,7 +36,11 @@ scanners-alike named rules [] (scanner ∷ scanners) others are are_other = absu
 scanners-alike named rules (cond ∷ conds) [] others are are_other = absurd are
 scanners-alike named rules (cond ∷ conds) (scanner ∷ scanners) [] are are_other = absurd are_other
 scanners-alike named rules (cond ∷ conds) (scanner ∷ scanners) (other ∷ others) are are_other = (
-  (are.0.name ∙ sym are_other.0.name, are.0.patterns ∙ sym are_other.0.patterns),
+  record {
+    cond = are.0.name ∙ sym are_other.0.name;
+    patterns = are.0.patterns ∙ sym are_other.0.patterns;
+    names = are.0.names ∙ sym are_other.0.names;
+  },
   scanners-alike named rules conds scanners others are.1 are_other.1,
 )
 
@@ -149,14 +154,17 @@ module _ (options : Options) (lexemes : List Lexeme) where
   resolved-alike : (kind : BlockKind) → HasRules kind → (state : State) (resolved another : Resolved) → IsResolvedAs kind options.conds state resolved
       → IsResolvedAs kind options.conds state another → AreAlike resolved another
   resolved-alike kind to_keep state resolved another is is_other = record {
+    acts = is.1 ∙ sym is_other.1;
     config = is.2 ∙ sym is_other.2;
     scanners = subst (λ l. HaveSameRules l another.scanners) (sym is.0) (subst (HaveSameRules []) (sym is_other.0) tt);
   }
   resolved-alike kind of_scanners state resolved another is is_other = record {
+    acts = is.acts ∙ sym is_other.acts;
     config = is.config ∙ sym is_other.config;
     scanners = scanners-alike options.conds state.rules (conditions_of state.rules) resolved.scanners another.scanners is.scanners is_other.scanners;
   }
   resolved-alike kind of_use state resolved another is is_other = record {
+    acts = is.acts ∙ sym is_other.acts;
     config = is.config ∙ sym is_other.config;
     scanners = scanners-alike options.conds state.rules (conditions_of state.rules) resolved.scanners another.scanners is.scanners is_other.scanners;
   }

@@ -18,14 +18,14 @@ use Rattle.lx_parse.specs.Sorts.{sorts_of}
 use Rattle.lx_parse.specs.declared.items.Item.{Item}
 use Rattle.lx_regex.specs.Kinds.{HasRightKinds}
 use Rattle.lx_regex.specs.Pattern as regex
-use Rattle.lx_regex.specs.Pattern.{Pattern}
+use Rattle.lx_regex.specs.Pattern.{Pattern, is_end}
 use Rattle.lx_regex.specs.declared.rules.Rule.{Rule}
 use Rattle.lx_regex.specs.declared.rules.Tag.{Tag}
 use Rattle.lx_rules.specs.Blocks.{AreScanners, HasRules, IsResolved, IsResolvedAs, LabelsDiffer, MayBeNamed, MayBeTag, Resolves, ScannerChecks, StandsUnder, conditions_of, given_names, names_of, of_scanners, of_use, pattern_of, rules_of, scanner_fault, scanners_fault, to_keep}
 use Rattle.lx_rules.specs.Environments.{Environment, config_of}
 use Rattle.lx_rules.specs.FitScanners.{FitsLimits, IsFit}
 use Rattle.lx_rules.specs.Linked.{AreLinked}
-use Rattle.lx_rules.specs.Items.{State, end_meaning, first_state, is_end}
+use Rattle.lx_rules.specs.Items.{State, end_meaning, first_state}
 use Rattle.lx_rules.specs.Rules.{RuleOf}
 use Rattle.lx_rules.specs.WellFormed.{HaveBareEnds, HaveNames, HaveTagNames, IsBareEnd, IsLabeledApart, IsWellFormed, NamesNoTable, has_end}
 use Rattle.lx_rules.specs.Within.{IsScannerWithin}
@@ -36,7 +36,7 @@ use Rattle.lx_token.specs.Tokens.{tokens_of}
 use Rattle.lx_token.specs.declared.list.Token.{Token}
 use Rattle.lx_rules.proofs.Spellings.AllowedSettings.{no_clash, resolved-differ, resolved-eof, resolved-spelled, scanner_checks, stands-settings}
 use Rattle.lx_rules.proofs.ScannerSets.BuiltScanners.{all_of_scanner}
-use Rattle.lx_rules.proofs.Rules.EndRules.{IsEndRule, same_end}
+use Rattle.lx_rules.proofs.Rules.EndRules.{IsEndRule}
 use Rattle.lx_rules.proofs.Blocks.ItemFits.{IsStateWithin, goes_within}
 use Rattle.lx_rules.proofs.Blocks.ItemRuns.{body-alike}
 use Rattle.lx_rules.proofs.ScannerSets.LinkedScanners.{block_linked}
@@ -113,14 +113,14 @@ rules_named names (one ∷ built) (rule ∷ rules) same patterns are =
 
 -- a rule that is built is `$` where it is to be
 ends-built : (built : List Rule) (rules : List RuleOf) → map regex.pattern_of built ≡ map pattern_of rules
-    → list_any (λ (rule : Rule). regex.is_end rule.kind) built ≡ list_any (λ (rule : RuleOf). is_end rule.kind) rules
+    → list_any (λ (rule : Rule). is_end rule.kind) built ≡ list_any (λ (rule : RuleOf). is_end rule.kind) rules
 ends-built [] [] same = refl
 ends-built [] (rule ∷ rules) same = absurd (let h = same in cc)
 ends-built (one ∷ built) [] same = absurd (let h = same in cc)
 ends-built (one ∷ built) (rule ∷ rules) same =
     let first : regex.pattern_of one ≡ pattern_of rule = let h = same in cc in
     let rest : map regex.pattern_of built ≡ map pattern_of rules = let h = same in cc in
-    ap₂ (λ here later. here || later) (ap (λ (p : Pattern). regex.is_end p.kind) first ∙ same_end rule.kind) (ends-built built rules rest)
+    ap₂ (λ here later. here || later) (ap (λ (p : Pattern). is_end p.kind) first) (ends-built built rules rest)
 
 -- a rule `$` means nothing, and has no trailing context
 abbrev IsBare : RuleOf → Type 0
@@ -146,7 +146,7 @@ no_tags (tag ∷ tags) none = absurd (let h = none in cc)
 -- so a rule `$` that is built gives nothing
 built_bare : (one : Rule) (rule : RuleOf) → regex.pattern_of one ≡ pattern_of rule → IsBare rule → IsBareEnd one
 built_bare one rule same bare = λ e.
-    let kind : regex.is_end one.kind ≡ is_end rule.kind = ap (λ (p : Pattern). regex.is_end p.kind) same ∙ same_end rule.kind in
+    let kind : is_end one.kind ≡ is_end rule.kind = ap (λ (p : Pattern). is_end p.kind) same in
     let is = bare (sym kind ∙ e) in (
       no_tags one.tags (ap (λ (p : Pattern). p.many) same ∙ ap (λ (m : Meaning). map (λ (tag : Tag). tag.many) m.tags) is.0),
       ap (λ (p : Pattern). p.slash) same ∙ is.1,

@@ -5,23 +5,17 @@ use Rattle.std.specs.List.{AllByRecursion, filter, list_any}
 use Rattle.std.proofs.lemmas.List.Elements.{filter-append}
 use Rattle.lx_base.specs.declared.faults.Fault.TheVariants.{Redefined}
 use Rattle.lx_base.specs.declared.places.Pos.{Pos}
-use Rattle.lx_regex.specs.Pattern as regex
 use Rattle.lx_regex.specs.declared.rules.Kind.{Kind}
 use Rattle.lx_regex.specs.declared.rules.Kind.TheVariants as kind
 use Rattle.lx_exprs.specs.Checks.{is_among}
 use Rattle.lx_exprs.specs.Defined.{Meaning}
 use Rattle.lx_rules.specs.Blocks.{every, not_of_kind, of_kind, own_or, rules_of, rules_under, scanner_rules, shared_beside, tags_of}
-use Rattle.lx_rules.specs.Items.{end_meaning, first_of, is_default, is_end, twice}
+use Rattle.lx_regex.specs.Pattern.{is_end}
+use Rattle.lx_rules.specs.Items.{end_meaning, first_of, is_default, twice}
 use Rattle.lx_rules.specs.Rules.{RuleOf}
 use Rattle.lx_rules.proofs.CondSets.CondNames.{list_any-among}
 use Rattle.lx_rules.proofs.Rules.RuleNumbers.{own_or-either}
 use Rattle.lx_rules.proofs.ZippedLists.{filter-none}
-
--- `$` is the same to both layers
-pub same_end : (k : Kind) → regex.is_end k ≡ is_end k
-same_end kind.Plain = refl
-same_end kind.Default = refl
-same_end kind.Eof = refl
 
 -- `$` has the meaning that it has to have
 abbrev pub IsEndRule : RuleOf → Type 0

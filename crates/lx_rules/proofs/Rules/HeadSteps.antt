@@ -21,7 +21,8 @@ use Rattle.lx_exprs.specs.declared.values.Room.{Room}
 use Rattle.lx_forms.specs.Lexemes.{Lexeme, nth_lexeme, sort_at, sorts_at}
 use Rattle.lx_exprs.specs.Checks.{Check, StopsAt, are_groups}
 use Rattle.lx_exprs.specs.Expressions.{ContextChecks, ExpressionChecks}
-use Rattle.lx_rules.specs.Items.{State, HeadChecks, IsHead, alone, any_meaning, as_rule, end_meaning, expression, head_sort, first_of, is_default, is_end, twice}
+use Rattle.lx_regex.specs.Pattern.{is_end}
+use Rattle.lx_rules.specs.Items.{State, HeadChecks, IsHead, alone, any_meaning, as_rule, end_meaning, expression, head_sort, first_of, is_default, twice}
 use Rattle.lx_exprs.specs.Expressions.{IsRead, IsReadAs}
 use Rattle.lx_exprs.specs.Defined.{Meaning, is_built}
 use Rattle.lx_rules.specs.Keeping.{Holds, IsContextRead, IsHeadRead, IsRuleExpr, StopsHead}

@@ -20,7 +20,8 @@ use Rattle.lx_rules.specs.declared.kept.KeptRule.{KeptRule}
 use Rattle.lx_rules.specs.declared.rule_exprs.RuleExpr.{RuleExpr}
 use Rattle.lx_rules.specs.Blocks.{add_conds}
 use Rattle.lx_rules.specs.Conditions.{AreNumbers, cond_names, conds_seen, nothing_runs, places_of, room_behind, room_under, running_of, running_with, standing_of, standing_with}
-use Rattle.lx_rules.specs.Items.{end_meaning, is_default, is_end}
+use Rattle.lx_regex.specs.Pattern.{is_end}
+use Rattle.lx_rules.specs.Items.{end_meaning, is_default}
 use Rattle.lx_rules.specs.Keeping.{HasReadKinds, IsBoundedExpr, IsBoundedHead, IsExprOf, IsFitExpr, IsHeadKept, IsHeadOf, IsRuleExpr, standing_in}
 use Rattle.lx_rules.specs.Kept.{AreKept, HasExprKinds, IsExprKept, IsKeptRule, IsRunning, is_within, may_stand, plain_under, places_from}
 use Rattle.lx_rules.specs.Rules.{RuleOf}

@@ -9,7 +9,8 @@ use Rattle.lx_regex.specs.declared.rules.Kind.TheVariants as kind
 use Rattle.lx_rules.specs.declared.conditions.Running.{Running}
 use Rattle.lx_rules.specs.Blocks.{nesting_of, not_of_kind, rules_under, size_of, tags_of}
 use Rattle.lx_rules.specs.Conditions.{nothing_runs, room_behind, running_with}
-use Rattle.lx_rules.specs.Items.{is_default, is_end}
+use Rattle.lx_regex.specs.Pattern.{is_end}
+use Rattle.lx_rules.specs.Items.{is_default}
 use Rattle.lx_rules.specs.Kept.{IsRunning, is_within, plain_of, plain_under}
 use Rattle.lx_rules.specs.Rules.{RuleOf}
 

@@ -5,7 +5,8 @@ use Rattle.std.specs.List.{AllByRecursion, filter, list_any}
 use Rattle.lx_exprs.specs.Checks.{is_among}
 use Rattle.lx_rules.specs.Blocks.{every, not_of_kind, of_kind, own_or, rules_of, rules_under, shared_beside}
 use Rattle.lx_rules.specs.Conditions.{AreConds}
-use Rattle.lx_rules.specs.Items.{is_default, is_end}
+use Rattle.lx_regex.specs.Pattern.{is_end}
+use Rattle.lx_rules.specs.Items.{is_default}
 use Rattle.lx_rules.specs.Rules.{RuleOf}
 use Rattle.lx_rules.proofs.CondSets.CondNames.{conds_apart}
 use Rattle.lx_rules.proofs.ScannerSets.ScannerLimits.{plain-either_way}

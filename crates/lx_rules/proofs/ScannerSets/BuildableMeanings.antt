@@ -20,7 +20,8 @@ use Rattle.lx_rules.specs.Buildable.{IsExpressible, AreExpressible, IsBuildable}
 use Rattle.lx_exprs.specs.Checks.{are_groups, bounds_of, inner_operand, tag_of}
 use Rattle.lx_exprs.specs.Defined.{Before, Definition, IsClassKept, IsDefined, IsTermKept, Meaning, Shape, one, row, choice, count_of, definition_of, is_built, kept, meant_class, whole, whole_room}
 use Rattle.lx_forms.specs.Forms.{Form, leaf, group, repeated, sequence, difference, alternative}
-use Rattle.lx_rules.specs.Items.{any_meaning, as_rule, end_meaning, in_whole, is_end, trailing}
+use Rattle.lx_regex.specs.Pattern.{is_end}
+use Rattle.lx_rules.specs.Items.{any_meaning, as_rule, end_meaning, in_whole, trailing}
 use Rattle.lx_rules.specs.Rules.{RuleOf}
 use Rattle.lx_forms.specs.Lexemes.{Lexeme, points_in}
 use Rattle.lx_exprs.specs.Meanings.{IsLeafMeaning, IsMeaning, alternated, character_set, class_meaning, class_term, copied, enclosed, followed, grouped, in_choice, in_group, in_parentheses, in_row, parenthesized, past, repeated_by, set_term, shifted, shifted_all, string_meaning, string_term, tag_meaning, term_or_empty}

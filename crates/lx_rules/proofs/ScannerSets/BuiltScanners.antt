@@ -4,7 +4,7 @@ use Rattle.std.specs.List.{AllByRecursion, list_any}
 use Rattle.std.specs.Prelude.{if◌then◌else◌}
 use Rattle.lx_base.specs.declared.places.Pos.{Pos}
 use Rattle.lx_regex.specs.Pattern as regex
-use Rattle.lx_regex.specs.Pattern.{Pattern, patterns_of}
+use Rattle.lx_regex.specs.Pattern.{Pattern, is_end, patterns_of}
 use Rattle.lx_regex.specs.Term.{Term}
 use Rattle.lx_regex.specs.declared.rules.Rule.{Rule}
 use Rattle.lx_regex.specs.declared.rules.Tag.{Tag}
@@ -13,7 +13,7 @@ use Rattle.lx_rules.specs.Blocks.{AreScanners, ClashCheck, ScannerChecks, IsReso
 use Rattle.lx_exprs.specs.Checks.{Check, Finds, Then, is_among}
 use Rattle.lx_exprs.specs.Defined.{term_of_meaning}
 use Rattle.lx_rules.specs.Environments.{config_of}
-use Rattle.lx_rules.specs.Items.{State, is_default, is_end}
+use Rattle.lx_rules.specs.Items.{State, is_default}
 use Rattle.lx_rules.specs.Rules.{RuleOf}
 use Rattle.lx_rules.specs.declared.resolved.Resolved.{Resolved}
 use Rattle.lx_rules.specs.declared.resolved.Scanner.{Scanner}

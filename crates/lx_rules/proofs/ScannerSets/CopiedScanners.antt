@@ -14,7 +14,7 @@ use Rattle.lx_regex.specs.Expr.{size_of, term_of}
 use Rattle.lx_regex.specs.Kinds.{HasKind, HasRightKinds, HaveKinds, kinds_of}
 use Rattle.lx_regex.specs.Limits.{end_count, sizes_of}
 use Rattle.lx_regex.specs.Pattern as regex
-use Rattle.lx_regex.specs.Pattern.{Pattern}
+use Rattle.lx_regex.specs.Pattern.{Pattern, is_end}
 use Rattle.lx_regex.specs.declared.expr.Expr.{Expr}
 use Rattle.lx_regex.specs.declared.rules.Rule.{Rule}
 use Rattle.lx_regex.specs.declared.rules.Tag.{Tag}
@@ -32,9 +32,7 @@ use Rattle.lx_rules.specs.Finishing.{IsBuilt, IsCopyOf, IsBuiltScanner, kept_rul
 use Rattle.lx_rules.specs.Kept.{HasExprKinds, IsExprKept, IsKeptRule, is_within, may_stand, places_from}
 use Rattle.lx_rules.specs.Rules.{RuleOf}
 use Rattle.lx_rules.specs.FitScanners.{IsFit}
-use Rattle.lx_rules.specs.Items.{is_end}
 use Rattle.lx_rules.proofs.CondSets.CondNames.{list_any-among}
-use Rattle.lx_rules.proofs.Rules.EndRules.{same_end}
 use Rattle.lx_rules.proofs.ScannerSets.KeptScanners.{StandsUnder, rules_of-zip}
 use Rattle.lx_rules.proofs.ScannerSets.ScannerLimits.{AreLimited, own_within, scanner_limited, shared_within}
 use Rattle.lx_rules.proofs.ZippedLists.{zip-both, zip-so}
@@ -161,7 +159,7 @@ module _ (most : ℕ) where
   sizes_small (one ∷ built) (rule ∷ rules) are = at (is_end rule.kind) refl (sizes_small built rules are.1)
     where
       same : (b : Bool) → is_end rule.kind ≡ b → regex.is_end one.kind ≡ b
-      same b e = same_end one.kind ∙ ap (λ (p : Pattern). is_end p.kind) are.0.pattern ∙ e
+      same b e = ap (λ (p : Pattern). is_end p.kind) are.0.pattern ∙ e
 
       at : (b : Bool) → is_end rule.kind ≡ b
           → (sizes_of built ≤ blocks.size_of (not_of_kind is_end rules)) × (length built ≤ blocks.size_of (not_of_kind is_end rules) + end_count built)

@@ -13,7 +13,8 @@ use Rattle.lx_rules.specs.declared.kept.KeptRule.{KeptRule}
 use Rattle.lx_rules.specs.Blocks.{every, limits_fault, nesting_of, not_of_kind, of_kind, own_or, pair_fault, rules_of, rules_under, scanner_fault, scanner_rules, shared_beside, size_of, tags_of}
 use Rattle.lx_rules.specs.Conditions.{nothing_runs, running_with}
 use Rattle.lx_rules.specs.Finishing.{kept_defaults, kept_fault, kept_in_order, kept_others, kept_at, kept_rules_of, running_fault, running_over, weight_of}
-use Rattle.lx_rules.specs.Items.{is_default, is_end}
+use Rattle.lx_regex.specs.Pattern.{is_end}
+use Rattle.lx_rules.specs.Items.{is_default}
 use Rattle.lx_rules.specs.Kept.{IsKeptRule, IsRunning, places_from}
 use Rattle.lx_rules.specs.Rules.{RuleOf}
 use Rattle.lx_rules.proofs.Rules.RuleLists.{IsRunning-both, IsRunning-nothing}

@@ -14,7 +14,7 @@ use Rattle.lx_regex.specs.Limits as limits
 use Rattle.lx_regex.specs.Limits.{AreRegular, HaveDifferentNumbers, IsRegular, IsSlashOf, NoneHasNumber, StandsAmong, StandsIn, end_count}
 use Rattle.lx_regex.specs.Term.{Term, Terms, empty, class, any_unit, cat, alt, repeat, tag, group, nil, cons}
 use Rattle.lx_regex.specs.Pattern as regex
-use Rattle.lx_regex.specs.Pattern.{Pattern, terms_of}
+use Rattle.lx_regex.specs.Pattern.{Pattern, is_end, terms_of}
 use Rattle.lx_regex.specs.Values.{group_ends}
 use Rattle.lx_regex.proofs.PartTables.RuleParts.{length-group_ends}
 use Rattle.lx_regex.specs.declared.rules.Rule.{Rule}
@@ -28,7 +28,7 @@ use Rattle.lx_exprs.specs.Checks.{Check, Finds, Then}
 use Rattle.lx_exprs.specs.Defined.{Meaning, is_built, whole, whole_room}
 use Rattle.lx_rules.specs.Conditions.{AreConds}
 use Rattle.lx_rules.specs.Environments.{config_of}
-use Rattle.lx_rules.specs.Items.{State, is_end}
+use Rattle.lx_rules.specs.Items.{State}
 use Rattle.lx_rules.specs.Rules.{RuleOf}
 use Rattle.lx_rules.specs.FitScanners.{FitsLimits, IsFit}
 use Rattle.lx_exprs.specs.Within.{IsPlain}
@@ -41,7 +41,7 @@ use Rattle.lx_regex.specs.Script.{merge_tags}
 use Rattle.lx_exprs.proofs.Classes.ClassFits.{classes_fit, plain-behind}
 use Rattle.lx_exprs.proofs.TagLists.TagNumbers.{long-behind, merge_tags-numbers, numbers_from-shifted, tags_in-behind}
 use Rattle.lx_exprs.proofs.Forms.ClassForms.{then-none}
-use Rattle.lx_rules.proofs.Rules.EndRules.{IsEndRule, end_once, end_total, same_end, tags_of-others}
+use Rattle.lx_rules.proofs.Rules.EndRules.{IsEndRule, end_once, end_total, tags_of-others}
 use Rattle.lx_rules.proofs.Blocks.ItemFits.{IsStateWithin}
 use Rattle.lx_rules.proofs.Rules.RuleFits.{IsRuleMeant, IsSlashIn}
 use Rattle.lx_rules.proofs.Rules.RuleNumbers.{Differ, differ_of_scanner}
@@ -75,8 +75,8 @@ rest_same built others rule rules same = let h = same in cc
 
 -- `$` stands for `$`
 same_ends : (built : Rule) (others : List Rule) (rule : RuleOf) (rules : List RuleOf) → HaveRules (built ∷ others) (rule ∷ rules)
-    → regex.is_end built.kind ≡ is_end rule.kind
-same_ends built others rule rules same = same_end built.kind ∙ ap (λ (p : Pattern). is_end p.kind) (first_same built others rule rules same)
+    → is_end built.kind ≡ is_end rule.kind
+same_ends built others rule rules same = ap (λ (p : Pattern). is_end p.kind) (first_same built others rule rules same)
 
 -- a meaning within the limits is built
 built_within : (meaning : Meaning) → meaning.size ≤ 4096 → meaning.nesting ≤ 256 → meaning.count ≤ 128 → is_built whole_room meaning ≡ true
@@ -124,7 +124,7 @@ module _ (enc : Enc) where
   ends_same (one ∷ built) (rule ∷ rules) same =
       at (is_end rule.kind) (same_ends one built rule rules same) (ends_same built rules (rest_same one built rule rules same))
     where
-      at : (b : Bool) → regex.is_end one.kind ≡ b → end_count built ≡ end_total rules
+      at : (b : Bool) → is_end one.kind ≡ b → end_count built ≡ end_total rules
           → end_count (one ∷ built) ≡ length (if b then rule ∷ of_kind is_end rules else of_kind is_end rules)
       at true e later = rw (e) (omega (arith, later))
       at false e later = rw (e) (omega (arith, later))
@@ -133,7 +133,7 @@ module _ (enc : Enc) where
   regular_all [] rules same are = tt
   regular_all (one ∷ built) [] same are = no_rule one built same
   regular_all (one ∷ built) (rule ∷ rules) same are = (
-    OnFalse_from (regex.is_end one.kind) (IsRegular (regex.pattern_of one))
+    OnFalse_from (is_end one.kind) (IsRegular (regex.pattern_of one))
         (λ is. subst IsRegular (sym (first_same one built rule rules same)) (are.0.regular (sym (same_ends one built rule rules same) ∙ is))),
     regular_all built rules (rest_same one built rule rules same) are.1,
   )
@@ -178,9 +178,9 @@ module _ (enc : Enc) where
     where
       at : (b : Bool) → is_end rule.kind ≡ b → AllClassesFit enc (terms_of (map blocks.pattern_of rules))
           → AllClassesFit enc (terms_of (map blocks.pattern_of (rule ∷ rules)))
-      at true e later = rw (same_end rule.kind ∙ e) later
+      at true e later = rw e later
       at false e later =
-          rw (same_end rule.kind ∙ e) (
+          rw e (
             classes_fit enc (behind (length rule.meaning.tags) (whole rule.meaning.shape))
                 (plain-behind enc (length rule.meaning.tags) (whole rule.meaning.shape) (are.0.plain e)),
             later,

@@ -9,7 +9,8 @@ use Rattle.lx_base.specs.declared.faults.Fault.TheVariants.{EofPair, NoRules, To
 use Rattle.lx_base.specs.declared.places.Pos.{Pos}
 use Rattle.lx_exprs.specs.Defined.{kept, whole_room}
 use Rattle.lx_rules.specs.Blocks.{every, is_bare, limits_fault, nesting_of, not_of_kind, of_kind, own_or, pair_fault, rules_of, rules_under, scanner_fault, shared_beside, size_of, tags_of}
-use Rattle.lx_rules.specs.Items.{is_default, is_end}
+use Rattle.lx_regex.specs.Pattern.{is_end}
+use Rattle.lx_rules.specs.Items.{is_default}
 use Rattle.lx_rules.specs.Kept.{is_within, plain_of, plain_under}
 use Rattle.lx_rules.specs.Rules.{RuleOf}
 use Rattle.lx_rules.proofs.Rules.RuleLists.{fits_so, nesting_of-both, size_of-both, tags_of-both}

@@ -51,13 +51,13 @@ module _ (policy : Policy) (enc : Enc) (patterns : List Pattern) (auto given : A
       → StandsSame auto given behind (run given (start_with start source) word)
   other_stands word behind ran =
       find_same-stands auto given behind (run auto (start_with start bank) word) (run given (start_with start source) word) ran
-      ((same start bank empty).2 word)
+      ((same start bank empty).3 word)
 
   begins-same : (word : List ℕ) → IsWord enc (terms_of patterns) word
       → IsSome (run auto (start_with start bank) word) ↔ BeginsMatch enc (terms_of patterns) word
   begins-same word spelled =
       let both = find_same-some auto given (run auto (start_with start bank) word) (run given (start_with start source) word)
-      ((same start bank empty).2 word) in
+      ((same start bank empty).3 word) in
       let begins = is.begins start source word source_empty spelled in
       ((λ some. begins.0 (both.0 some)), (λ begun. both.1 (begins.1 begun)))
 

@@ -1,9 +1,36 @@
-use Rattle.std.proofs.Common.{arith}
-use Rattle.lx_compile.specs.Making.{seen_pieces}
-use Rattle.lx_compile.proofs.GreatestNumbers.{groups_of-positive}
+use Rattle.std.proofs.Common.{◌≡◌, ◌∙◌, ap, sym, ◌+◌, ◌∷◌, max, drop, arith}
+use Rattle.lx_compile.specs.Facts.{groups_of}
+use Rattle.lx_compile.proofs.GreatestNumbers.{groups_of-more, groups_of-other, groups_of-positive, ord_max-max}
+use Rattle.lx_compile.proofs.ItemRuns.{drop-item}
+use Rattle.lx_compile.proofs.facts.groups_of.Goals.{in-Scanners, in_default}
 use Rattle.lx_compile.proofs.facts.groups_of.Goals as goal
 
-pub loop-piece-init : goal.loop-piece-init
-loop-piece-init c =
-    let positive = groups_of-positive (seen_pieces c.args.pieces.now) in
-    record { most = omega (arith, positive); positive = omega arith }
+pub loop-one-init : goal.loop-one-init
+loop-one-init c = let positive = groups_of-positive c.args.made.now in record { most = omega (arith, positive); positive = omega arith }
+
+pub loop-one-preserved : goal.loop-one-preserved
+loop-one-preserved c =
+    let made = c.args.made.now in
+    let place = c.loop-one.one-index in
+    let one = c.one-item.result in
+    let rest = drop (place + 1) made in
+    let most = c.loop-one.most in
+    let before = c.loop-one.invariant in
+    let from = ap (λ l. max most (groups_of l)) (sym (drop-item made place one c.loop-one-test.true c.one-item.is)) ∙ before.most in
+    elim c.match-one.branch [
+      | in-Scanners w ↦
+          let piece = w.in-Scanners.piece in
+          let checks = w.in-Scanners.checks in
+          let warnings = w.in-Scanners.warnings in
+          let groups = w.in-Scanners.groups in
+          let is : c.match-one.most ≡ max most groups = w.most-is ∙ w.max-most.ensures ∙ ord_max-max most groups in record {
+            most =
+                ap (λ n. max n (groups_of rest)) is ∙ groups_of-more most piece checks warnings w.in-Scanners.cover groups rest
+                ∙ ap (λ first. max most (groups_of (first ∷ rest))) (sym w.in-Scanners.is) ∙ from;
+            positive = omega (arith, before.positive, is);
+          }
+      | in_default w ↦ record {
+        most = ap (λ n. max n (groups_of rest)) w.most-is ∙ ap (max most) (sym (groups_of-other one rest w.in_default.not-Scanners)) ∙ from;
+        positive = omega (arith, before.positive, w.most-is);
+      }
+    ]

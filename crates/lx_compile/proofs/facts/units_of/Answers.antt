@@ -25,7 +25,7 @@ loop-one-preserved c =
           let is : c.match-one.most ≡ greatest_in most checks =
           w.most-is ∙ w.greatest_in-most.ensures in record {
             most =
-                ap (λ n. max n (units_of rest)) is ∙ units_of-more most piece checks warnings w.in-Scanners.cover rest
+                ap (λ n. max n (units_of rest)) is ∙ units_of-more most piece checks warnings w.in-Scanners.cover w.in-Scanners.groups rest
                 ∙ ap (λ first. max most (units_of (first ∷ rest))) (sym w.in-Scanners.is) ∙ from;
             positive = omega (arith, before.positive, is, greatest_in-max most checks);
           }

@@ -37,6 +37,7 @@ returns c =
       },
       c.in_ok-warnings.ensures,
       rw c.from_vec.ensures c.in_ok-autos.ensures.2,
+      c.block_groups-groups.ensures,
       c.in_ok-autos.ensures.1,
       c.first_kept.ensures options (rw (c.in_ok-piece.ensures.scanners, c.in_ok-first.ensures.first) made.first),
     )

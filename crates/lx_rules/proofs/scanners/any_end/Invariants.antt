@@ -1,6 +1,6 @@
 use Rattle.std.proofs.Common.{◌≡◌, drop, map}
 use Rattle.std.specs.List.{list_any}
-use Rattle.lx_rules.specs.Items.{is_end}
+use Rattle.lx_regex.specs.Pattern.{is_end}
 use Rattle.lx_rules.specs.declared.kept.KeptRule.{KeptRule}
 use Rattle.lx_rules.proofs.scanners.any_end.Given as goal
 

@@ -1,9 +1,0 @@
-use Rattle.std.proofs.Common.{◌≡◌, drop, max}
-use Rattle.lx_ccode.specs.Counts.{greatest_of}
-use Rattle.lx_ccode.specs.Statements.{all_statements}
-use Rattle.lx_compile.specs.Facts.{groups_in}
-use Rattle.lx_compile.proofs.facts.groups_in_blocks.Given as goal
-
-abbrev pub invariant-loop-block : goal.invariant-loop-block
-invariant-loop-block l =
-    max l.most (greatest_of groups_in (all_statements (drop l.block-index l.blocks))) ≡ greatest_of groups_in (all_statements l.blocks)
