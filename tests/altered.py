@@ -3,10 +3,10 @@
 
 Usage: tests/altered.py, or tests/altered.py examples [COUNT], from anywhere.
 
-Without words it writes: each case of crates/cases/data/altered.txt has an emitted text, as the last content of q.c, and a run of its scanner. What stands in a
-case behind the line that this script writes is made anew: runs of the fronts of the text, and of the text with a byte set to 00. A front
-that ends before the piece does is refused, and so is a piece with a byte 00 outside its actions; all others run as the text does. The
-format is that of crates/cases/README.md.
+Without words it writes: each case of crates/cases/data/altered.txt has an emitted text, as the last content of q.c, and a run of its
+scanner. What stands in a case behind the line that this script writes is made anew: runs of the fronts of the text, and of the text with a
+byte set to 00. A front that ends before the piece does is refused, and so is a piece with a byte 00 outside its actions; all others run as
+the text does. The format is that of crates/cases/README.md.
 
 With `examples` it writes nothing, and runs the first scanner of each output of examples/ in format 3 over a small input: the output as it
 is, cut at COUNT places of the scanner's piece (25 where it is left out), and with a byte 00 at COUNT places. The same is wanted of these
@@ -156,7 +156,7 @@ def run_examples(count):
         for given in (DATA.parents[3] / "examples").iterdir():
             if given.is_file():
                 (folder / given.name).write_bytes(given.read_bytes())
-        (folder / "in.txt").write_bytes(b"ab 12.5 \"x\"\n  \0\0\0")
+        (folder / "in.txt").write_bytes(b"ab 12.5 \"x\"\n\0\0\0\0")
         # (an example stands there a second time by its blocks alone)
         for text in {text.name: text for text in reversed(fuzz.examples().texts)}.values():
             example = Example(program, folder, text)

@@ -3,7 +3,6 @@ import re
 
 BEGIN = re.compile(rb"/\*!begin:re2c (0|[1-9][0-9]*)\*/")
 END = "/*!end:re2c*/"
-NUMBER = r"(\d+)"
 MOST = (1 << 32) - 1
 SPELLED = (
     "type cursor limit marker context fill getstate setstate getcond setcond mtagp mtagn yych yyaccept prefix condprefix condnumber".split()
@@ -14,6 +13,7 @@ MODES = {"plain": (False, False, False), "count": (False, True, False), "eoffixe
 HEAD = re.compile(r"/\*!head:re2c (\d+) (custom )?(kept )?(\w+) (\w+) (\d+) (\d+) (\d+)\*/")
 CODE = re.compile(r"\t/\*!code:re2c (\d+) (\d+)\*/")
 LINE = re.compile(r'#line (\d+) "((?:[^"\\]|\\.)*)"')
+BLOCK = r"yy\d+_(\d+)"
 ENDS = ("goto", "leave", "code", "jump", "switch")
 # how many of the numbers behind the kind of a statement are registers or histories, and which are a block
 REGISTERS = {"set": (0,), "unset": (0,), "copy": (0, 1), "back": (0,), "end": (1,), "tag": (1,)}
@@ -40,8 +40,6 @@ class Piece:
         self.conds = []
         self.table = b""
         self.blocks = []
-        # of each block the condition that starts there, and of each action the line and the file that stand before it
-        self.starts = []
         # the line and the file that stand behind it, and of format 3 the line of its brace and the output's name
         self.line = None
         self.place, self.out = None, None
@@ -99,10 +97,16 @@ class Piece:
 
     def text_of(self, one):
         """The text of a statement, without its tab and what ends the line."""
-        n, (kind, *of) = self.names, one
-        block = lambda number: "yy%d_%d" % (self.number, number)
-        reg, his = self.register, self.history
-        usual = {
+        kind, *of = one
+        own = self.custom_texts(of) if self.custom else self.usual_texts(of)
+        return {**self.other_texts(of), **own}[kind]()
+
+    def block(self, number):
+        return "yy%d_%d" % (self.number, number)
+
+    def usual_texts(self, of):
+        n, reg = self.names, self.register
+        return {
             "peek": lambda: "%s = *%s;" % (n["yych"], n["cursor"]),
             "skip": lambda: "++%s;" % n["cursor"],
             "backup": lambda: "%s = %s;" % (n["marker"], n["cursor"]),
@@ -111,9 +115,12 @@ class Piece:
             "unset": lambda: "%s = NULL;" % reg(of[0]),
             "back": lambda: "%s = %s;" % (n["cursor"], reg(of[0])),
             "need": lambda: "if ((%s - %s) < %d) %s(%d);" % (n["limit"], n["cursor"], of[0], n["fill"], of[0]),
-            "ifend": lambda: "if (%s >= %s) goto %s;" % (n["cursor"], n["limit"], block(of[0])),
+            "ifend": lambda: "if (%s >= %s) goto %s;" % (n["cursor"], n["limit"], self.block(of[0])),
         }
-        custom = {
+
+    def custom_texts(self, of):
+        n, reg = self.names, self.register
+        return {
             "peek": lambda: "%s = YYPEEK();" % n["yych"],
             "skip": lambda: "YYSKIP();",
             "backup": lambda: "YYBACKUP();",
@@ -122,9 +129,12 @@ class Piece:
             "unset": lambda: "YYSTAGN(%s);" % reg(of[0]),
             "back": lambda: "YYRESTORETAG(%s);" % reg(of[0]),
             "need": lambda: "if (YYLESSTHAN(%d)) %s(%d);" % (of[0], n["fill"], of[0]),
-            "ifend": lambda: "if (YYLESSTHAN(1)) goto %s;" % block(of[0]),
+            "ifend": lambda: "if (YYLESSTHAN(1)) goto %s;" % self.block(of[0]),
         }
-        others = {
+
+    def other_texts(self, of):
+        n, reg, his, block = self.names, self.register, self.history, self.block
+        return {
             "accept": lambda: "%s = %d;" % (n["yyaccept"], of[0]),
             "copy": lambda: "%s = %s;" % (reg(of[0]), reg(of[1])),
             "mset": lambda: "%s(%s);" % (n["mtagp"], his(of[0])),
@@ -145,7 +155,6 @@ class Piece:
             "leave": lambda: "goto yy%d_none;" % self.number,
             "jump": lambda: "goto %s%s; /* %d */" % (n["condprefix"], of[1], of[0]),
         }
-        return {**others, **(custom if self.custom else usual)}[kind]()
 
     def set_text(self, number, label):
         yych = self.names["yych"]
@@ -440,41 +449,48 @@ class Reader:
     def statement_patterns(self):
         n = {name: re.escape(text) for name, text in self.p.names.items()}
         reg = r"(%s\d+|%s)" % (n["prefix"], n["context"])
-        his = r"%sm(\d+)" % n["prefix"]
-        block = r"yy\d+_(\d+)"
-        r, i, h = self.reg, int, lambda text: int(text, 16)
-        if self.p.custom:
-            own = [
-                ("peek", "%s = YYPEEK\\(\\);" % n["yych"]), ("skip", "YYSKIP\\(\\);"), ("backup", "YYBACKUP\\(\\);"),
-                ("restore", "YYRESTORE\\(\\);"), ("set", r"YYSTAGP\(%s\);" % reg, r), ("unset", r"YYSTAGN\(%s\);" % reg, r),
-                ("back", r"YYRESTORETAG\(%s\);" % reg, r), ("need", r"if \(YYLESSTHAN\((\d+)\)\) %s\(\d+\);" % n["fill"], i),
-                ("ifend", r"if \(YYLESSTHAN\(1\)\) goto %s;" % block, i),
-            ]
-        else:
-            own = [
-                ("peek", r"%s = \*%s;" % (n["yych"], n["cursor"])), ("skip", r"\+\+%s;" % n["cursor"]),
-                ("backup", "%s = %s;" % (n["marker"], n["cursor"])), ("restore", "%s = %s;" % (n["cursor"], n["marker"])),
-                ("set", "%s = %s;" % (reg, n["cursor"]), r), ("unset", "%s = NULL;" % reg, r), ("back", "%s = %s;" % (n["cursor"], reg), r),
-                ("need", r"if \(\(%s - %s\) < (\d+)\) %s\(\d+\);" % (n["limit"], n["cursor"], n["fill"]), i),
-                ("ifend", r"if \(%s >= %s\) goto %s;" % (n["cursor"], n["limit"], block), i),
-            ]
-        rest = [
-            ("accept", r"%s = (\d+);" % n["yyaccept"], i), ("copy", "%s = %s;" % (reg, reg), r, r),
-            ("mset", r"%s\(%s\);" % (n["mtagp"], his), i), ("munset", r"%s\(%s\);" % (n["mtagn"], his), i),
-            ("mcopy", "%s = %s;" % (his, his), i, i), ("ifunit", r"if \(%s <= 0x([0-9A-F]+)\) goto %s;" % (n["yych"], block), h, i),
-            ("ifis", r"if \(%s == 0x([0-9A-F]+)\) goto %s;" % (n["yych"], block), h, i),
-            ("ifaccept", r"if \(%s == (\d+)\) goto %s;" % (n["yyaccept"], block), i, i),
-            ("state", r"%s\((\d+)\);" % n["setstate"], i), ("try", r"if \(%s\(\) == 0\) goto %s;" % (n["fill"], block), i),
-            ("cond", r"%s\(%s(\w+)\);" % (n["setcond"], n["condnumber"]), str), ("count", r"yynmatch = (\d+);", i),
-            ("end", r"yypmatch\[(\d+)\] = %s;" % reg, i, r), ("tag", r"(\w+) = %s;" % reg, str, r),
-            ("mtag", r"(\w+) = %s;" % his, str, i), ("goto", "goto %s;" % block, i), ("leave", r"goto yy\d+_none;"),
-        ]
-        made = [(kind, re.compile("\t" + pattern, re.DOTALL), self.taken(of)) for kind, pattern, *of in own + rest]
+        own = self.custom_patterns(n, reg) if self.p.custom else self.usual_patterns(n, reg)
+        both = own + self.other_patterns(n, reg)
+        made = [(kind, re.compile("\t" + pattern, re.DOTALL), self.taken(of)) for kind, pattern, *of in both]
         jump = re.compile("\t" + r"goto %s(\w+); /\* (\d+) \*/" % n["condprefix"])
         made.append(("jump", jump, lambda groups: (int(groups[1]), groups[0])))
-        tests = r"\tif \((?:%s <= 0xFF && \()?yybm\[(0x[1-7]00 \+ )?%s\] & 0x([0-9A-F]+)\)+ goto %s;" % (n["yych"], n["yych"], block)
+        tests = r"\tif \((?:%s <= 0xFF && \()?yybm\[(0x[1-7]00 \+ )?%s\] & 0x([0-9A-F]+)\)+ goto %s;" % (n["yych"], n["yych"], BLOCK)
         made.append(("ifset", re.compile(tests), self.set_of))
         return made
+
+    def usual_patterns(self, n, reg):
+        r = self.reg
+        return [
+            ("peek", r"%s = \*%s;" % (n["yych"], n["cursor"])), ("skip", r"\+\+%s;" % n["cursor"]),
+            ("backup", "%s = %s;" % (n["marker"], n["cursor"])), ("restore", "%s = %s;" % (n["cursor"], n["marker"])),
+            ("set", "%s = %s;" % (reg, n["cursor"]), r), ("unset", "%s = NULL;" % reg, r), ("back", "%s = %s;" % (n["cursor"], reg), r),
+            ("need", r"if \(\(%s - %s\) < (\d+)\) %s\(\d+\);" % (n["limit"], n["cursor"], n["fill"]), int),
+            ("ifend", r"if \(%s >= %s\) goto %s;" % (n["cursor"], n["limit"], BLOCK), int),
+        ]
+
+    def custom_patterns(self, n, reg):
+        r = self.reg
+        return [
+            ("peek", r"%s = YYPEEK\(\);" % n["yych"]), ("skip", r"YYSKIP\(\);"), ("backup", r"YYBACKUP\(\);"),
+            ("restore", r"YYRESTORE\(\);"), ("set", r"YYSTAGP\(%s\);" % reg, r), ("unset", r"YYSTAGN\(%s\);" % reg, r),
+            ("back", r"YYRESTORETAG\(%s\);" % reg, r), ("need", r"if \(YYLESSTHAN\((\d+)\)\) %s\(\d+\);" % n["fill"], int),
+            ("ifend", r"if \(YYLESSTHAN\(1\)\) goto %s;" % BLOCK, int),
+        ]
+
+    def other_patterns(self, n, reg):
+        his = r"%sm(\d+)" % n["prefix"]
+        r, i, h = self.reg, int, lambda text: int(text, 16)
+        return [
+            ("accept", r"%s = (\d+);" % n["yyaccept"], i), ("copy", "%s = %s;" % (reg, reg), r, r),
+            ("mset", r"%s\(%s\);" % (n["mtagp"], his), i), ("munset", r"%s\(%s\);" % (n["mtagn"], his), i),
+            ("mcopy", "%s = %s;" % (his, his), i, i), ("ifunit", r"if \(%s <= 0x([0-9A-F]+)\) goto %s;" % (n["yych"], BLOCK), h, i),
+            ("ifis", r"if \(%s == 0x([0-9A-F]+)\) goto %s;" % (n["yych"], BLOCK), h, i),
+            ("ifaccept", r"if \(%s == (\d+)\) goto %s;" % (n["yyaccept"], BLOCK), i, i),
+            ("state", r"%s\((\d+)\);" % n["setstate"], i), ("try", r"if \(%s\(\) == 0\) goto %s;" % (n["fill"], BLOCK), i),
+            ("cond", r"%s\(%s(\w+)\);" % (n["setcond"], n["condnumber"]), str), ("count", r"yynmatch = (\d+);", i),
+            ("end", r"yypmatch\[(\d+)\] = %s;" % reg, i, r), ("tag", r"(\w+) = %s;" % reg, str, r),
+            ("mtag", r"(\w+) = %s;" % his, str, i), ("goto", "goto %s;" % BLOCK, i), ("leave", r"goto yy\d+_none;"),
+        ]
 
     @staticmethod
     def taken(of):
