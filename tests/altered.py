@@ -115,12 +115,17 @@ class Example:
     def __init__(self, program, folder, text):
         self.program, self.folder, self.name = program, folder, text.name
         (folder / "q.re").write_bytes(text.data)
-        made = self.call("-i", *text.options, "--x-format", "3", "-o", "q.c", "q.re")
-        self.text = (folder / "q.c").read_bytes() if made.returncode == 0 else b""
+        self.text = b""
+        try:
+            made = self.call("-i", *text.options, "--x-format", "3", "-o", "q.c", "q.re")
+            if made.returncode == 0:
+                self.text = (folder / "q.c").read_bytes()
+        except subprocess.TimeoutExpired:
+            print("%s takes long, and is left out" % text.name, flush=True)
         self.mark = SCANNER.search(self.text)
 
     def call(self, *words):
-        return subprocess.run([self.program, *words], cwd=self.folder, capture_output=True, timeout=300)
+        return subprocess.run([self.program, *words], cwd=self.folder, capture_output=True, timeout=120)
 
     def run(self, text):
         """The status of a run of a text, and what it puts."""

@@ -44,6 +44,8 @@ class Piece:
         self.line = None
         self.place, self.out = None, None
         self.context = False
+        # the kinds of its statements, once all are read
+        self.kinds = None
 
     # ---- what is known of it
 
@@ -51,7 +53,9 @@ class Piece:
         return [one for code in self.blocks for one in code]
 
     def has(self, *kinds):
-        return any(one[0] in kinds for one in self.statements())
+        if self.kinds is None:
+            self.kinds = {one[0] for one in self.statements()}
+        return not self.kinds.isdisjoint(kinds)
 
     def stores(self):
         return self.has("state")

@@ -29,6 +29,8 @@ WINDOWS = [1, 2, 3, 4, 5, 6, 7, 8, 10, 13, 32, 4096]
 STEPS = [1, 1, 2, 3, 4, 5, 6, 4096]
 # of a text: how often it runs as it is, and how often altered
 WHOLE, ALTERED = 6, 6
+# how long a compilation or a run may take
+SECONDS = 120
 # how many runs that differ end the script
 MOST = 20
 
@@ -51,7 +53,7 @@ class Trial:
             given.write(data)
 
     def call(self, words):
-        return subprocess.run([self.program] + words, cwd=self.folder, capture_output=True, timeout=300)
+        return subprocess.run([self.program] + words, cwd=self.folder, capture_output=True, timeout=SECONDS)
 
     # ---- texts
 
@@ -127,7 +129,11 @@ class Trial:
 
     def round(self):
         """Runs the outputs of a source."""
-        made, inputs = self.texts()
+        try:
+            made, inputs = self.texts()
+        except subprocess.TimeoutExpired:
+            self.counts["sources left out, since they take long"] += 1
+            return
         self.counts["sources"] += 1
         for form, text in made:
             for kind, times in (("whole", WHOLE), ("altered", ALTERED)):
