@@ -1,11 +1,11 @@
 -- How a run of the program ends.
 use Rattle.std.specs.Prelude.{◌≡◌, ◌≢◌, ◌≤◌, ◌⊎◌, ℕ, Bool, List, [], codes, map, Option, Some, MatchOption, Result, Ok, Err, String, string_bytes}
-use Rattle.std.specs.Global.{Vec}
+use Rattle.std.specs.Global.{Global, Vec}
 use Rattle.std.specs.IoError.{error_kind}
-use Rattle.std.specs.declared.io.error.Error.{Error}
-use Rattle.std.specs.declared.io.kind.ErrorKind.{ErrorKind}
-use Rattle.std.specs.declared.io.kind.ErrorKind.TheVariants.{InvalidData}
-use Rattle.std.specs.declared.io.kind.ErrorKind.TheVariants as kind
+use Rattle.std.specs.declared.io.Error.{Error}
+use Rattle.std.specs.declared.io.ErrorKind.{ErrorKind}
+use Rattle.std.specs.declared.io.ErrorKind.TheVariants.{InvalidData}
+use Rattle.std.specs.declared.io.ErrorKind.TheVariants as kinds
 use Rattle.lx_base.specs.Message.{message_text}
 use Rattle.lx_base.specs.declared.faults.Fault.{Fault}
 use Rattle.lx_base.specs.declared.faults.Fault.TheVariants.{Usage}
@@ -162,10 +162,10 @@ pub record EndsWithout (kind : ErrorKind) (before after : Outside) (status : ℕ
   pub files : after.files ≡ before.files
   pub out : after.out ≡ before.out
   pub no_text : kind ≡ InvalidData → RefusesWords before.err after.err status
-  pub memory : kind ≡ kind.OutOfMemory → (status ≡ 4) × (after.err ≡ before.err)
-  pub other : kind ≢ InvalidData → kind ≢ kind.OutOfMemory → (status ≡ 5) × (after.err ≡ before.err)
+  pub memory : kind ≡ kinds.OutOfMemory → (status ≡ 4) × (after.err ≡ before.err)
+  pub other : kind ≢ InvalidData → kind ≢ kinds.OutOfMemory → (status ≡ 5) × (after.err ≡ before.err)
 
 -- the answer of the program to its words, or to the error by which they could not be had
-abbrev pub Answers : Result (Vec String) Error → Outside → Outside → (status : ℕ) → Type 0
+abbrev pub Answers : Result (Vec (String Global)) Error → Outside → Outside → (status : ℕ) → Type 0
 Answers (Ok words) before after status = Ends (map string_bytes words.items) before after status
 Answers (Err error) before after status = EndsWithout (error_kind error) before after status
