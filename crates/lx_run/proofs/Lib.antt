@@ -10,6 +10,7 @@ pub mod MatchRuns
 pub mod NewTags
 pub mod PutTexts
 pub mod RefilledWindows
+pub mod WantedPuts
 pub mod WindowEnds
 pub mod WindowMatches
 pub mod WindowRuns
