@@ -16,10 +16,15 @@ pub record Takes (given given' : Option (List ℕ)) (bytes : List ℕ) (count : 
   pub progress : 0 < length bytes → 0 < count
   pub front_given : given' ≡ given_then given (take count bytes)
 
--- a put is refused: because the count of its faults rose, or for want of memory, which is free
+-- a put is refused: because the count of its faults rose, or for want of memory
 abbrev pub RefusesPut : (before after : ℕ) → PutAnswer → Type 0
 RefusesPut before after Failed = Rose before after
 RefusesPut before after Memory = Unit {0}
+
+-- a put that is refused for want of memory is counted among those that were
+abbrev pub WantsMemory : (before after : ℕ) → PutAnswer → Type 0
+WantsMemory before after Failed = Unit {0}
+WantsMemory before after Memory = Rose before after
 
 -- a front of the text was given, and nothing else
 abbrev pub GivesFront : Option (List ℕ) → Option (List ℕ) → List ℕ → Type 0

@@ -1,6 +1,6 @@
 //! Sinks in memory.
 ghost use Rattle.std.specs.Prelude.{◌≡◌, ◌+◌, ◌≤◌, ◌↔◌, min, List, [], ◌∷◌, ◌++◌, Some, IsTrue, IfOk, IfErr, IsErrOf, OnOk, OnErr, Contains};
-ghost use Rattle.lx_files.specs.Taking.{Takes, RefusesPut};
+ghost use Rattle.lx_files.specs.Taking.{Takes, RefusesPut, WantsMemory};
 
 use crate::counts::{Calls, one_more};
 use crate::sinks::{PutAnswer, Sink};
@@ -27,6 +27,7 @@ pub struct MemSink {
     given: Vec<u8>,
     calls: Calls,
     faults: u64,
+    wants: u64,
 }
 
 impl Model for MemSink {
@@ -38,18 +39,20 @@ impl Model for MemSink {
       given = sink.given.items;
       calls = sink.calls;
       faults = sink.faults;
+      wants = sink.wants;
     } };
 }
 
 impl MemSink {
     /// An empty list, and no call that fails.
     pub fn new(alloc: Global) -> MemSink
-        ensures { result ≡ record { given = []; calls = record { failing = []; next = 0 }; faults = 0 } }
+        ensures { result ≡ record { given = []; calls = record { failing = []; next = 0 }; faults = 0; wants = 0 } }
     {
         MemSink {
             given: Vec::new(alloc),
             calls: Calls::new(alloc),
             faults: 0,
+            wants: 0,
         }
     }
 
@@ -74,12 +77,16 @@ impl Sink for MemSink {
 
     ghost faults = { λ sink. sink.faults };
 
+    ghost wants = { λ sink. sink.wants };
+
     fn put(&mut self, bytes: &[u8]) -> Result<usize, PutAnswer>
         ensures takes { IfOk result (Takes (Some self.old.given) (Some self.new.given) bytes.now) }
         ensures refuses { IfErr result (RefusesPut self.old.faults self.new.faults) }
+        ensures lacks { IfErr result (WantsMemory self.old.wants self.new.wants) }
         ensures calm { OnOk result (self.new.faults ≡ self.old.faults) }
         ensures kept { OnErr result (Some self.new.given ≡ Some self.old.given) }
         ensures never_falls { self.old.faults ≤ self.new.faults }
+        ensures wants_never_fall { self.old.wants ≤ self.new.wants }
         ensures fails { IsErrOf result PutAnswer.Failed ↔ Contains self.old.calls.failing self.old.calls.next }
         ensures counted { self.new.calls ≡ record { failing = self.old.calls.failing; next = min (self.old.calls.next + 1) 18446744073709551615 } }
     {
@@ -87,11 +94,17 @@ impl Sink for MemSink {
             self.faults = one_more(self.faults);
             return Err(PutAnswer::Failed);
         }
-        take_all(&mut self.given, bytes)
+        match take_all(&mut self.given, bytes) {
+            Ok(count) => Ok(count),
+            Err(_) => {
+                self.wants = one_more(self.wants);
+                Err(PutAnswer::Memory)
+            }
+        }
     }
 }
 
-/// A list of bytes that takes what is put to it, and of which no call fails.
+/// A list of bytes that takes what is put to it, and of which no call fails. Its count of wants stands at its last value.
 #[derive(Drop)]
 pub struct QuietSink {
     given: Vec<u8>,
@@ -127,6 +140,8 @@ impl Sink for QuietSink {
     ghost given = { λ sink. Some sink };
 
     ghost faults = { λ _. 0 };
+
+    ghost wants = { λ _. 18446744073709551615 };
 
     fn put(&mut self, bytes: &[u8]) -> Result<usize, PutAnswer> {
         take_all(&mut self.given, bytes)

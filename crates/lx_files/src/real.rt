@@ -154,6 +154,8 @@ impl<W: Write> Sink for RealSink<W> {
 
     ghost faults = { λ sink. sink.faults };
 
+    ghost wants = { λ _. 0 };
+
     fn put(&mut self, bytes: &[u8]) -> Result<usize, PutAnswer> {
         match write_some(&mut self.to, bytes) {
             Some(count) => Ok(count),

@@ -5,11 +5,14 @@ pub mod GivenAnswers
 pub mod Inputs
 pub mod MatchBounds
 pub mod MatchLemmas
+pub mod MatchLimits
 pub mod MatchLoops
 pub mod MatchRuns
 pub mod NewTags
 pub mod PutTexts
 pub mod RefilledWindows
+pub mod RunStarts
+pub mod WantedPuts
 pub mod WindowEnds
 pub mod WindowMatches
 pub mod WindowRuns

@@ -9,7 +9,7 @@ use Rattle.lx_window.specs.WindowView.{WindowView}
 use Rattle.lx_window.specs.Windows.{IsWindowOf, Refills}
 use Rattle.lx_window.specs.declared.refills.Fill.{Fill}
 use Rattle.lx_step.specs.declared.answers.Outcome.{Outcome}
-use Rattle.lx_step.specs.declared.answers.Outcome.TheVariants.{NeedFill, ReadFailed, Memory}
+use Rattle.lx_step.specs.declared.answers.Outcome.TheVariants.{NeedFill, ReadFailed}
 use Rattle.lx_step.specs.declared.answers.StmtAt.{StmtAt}
 use Rattle.lx_step.specs.Advances.{Behind, EndsAs, HoldsAfter, IsAdvance, IsLeft, LeavesMatch}
 use Rattle.lx_step.specs.Entries.{entry_by, entry_point}

@@ -25,7 +25,7 @@ use Rattle.lx_run.specs.Texts.{Between, Full, RunText, behind, is_followed, last
 use Rattle.lx_run.specs.Windows.{HasMatched, IsAt, IsBetween, LinesEnd}
 use Rattle.lx_run.specs.declared.ends.RunEnd.{RunEnd}
 use Rattle.lx_run.specs.declared.ends.RunEnd.TheVariants as run_end
-use Rattle.lx_run.proofs.PutTexts.{GivesFront-behind, HasPut-more, HasPut-nothing}
+use Rattle.lx_run.proofs.PutTexts.{GivesFront-behind, HasPut-nothing, HasPut-part}
 
 -- ---- the lines of a match
 
@@ -111,12 +111,12 @@ LinesEnd-EndsAs told held given given' faults faults' rest run_end.Memory ends =
     GivesFront-longer given given' (match_lines told held) (last_text told).text _ (last_text-text told) ends
 
 -- a put was made last or refused
-EndsAs-put : {A : Type 0} (given given' : Option (List ℕ)) (faults faults' : ℕ) (text : List ℕ) (put : Result A PutAnswer)
-    → IsPut given given' faults faults' text put
+EndsAs-put : {A : Type 0} (given given' : Option (List ℕ)) (faults faults' wants wants' : ℕ) (text : List ℕ) (put : Result A PutAnswer)
+    → IsPut given given' faults faults' wants wants' text put
     → EndsAs (record { text = text; full = None }) given given' faults faults' (end_behind put)
-EndsAs-put given given' faults faults' text (Ok value) put = (refl, put.gave, put.calm)
-EndsAs-put given given' faults faults' text (Err answer.Failed) put = (put.refuses, put.front)
-EndsAs-put given given' faults faults' text (Err answer.Memory) put = put.front
+EndsAs-put given given' faults faults' wants wants' text (Ok value) put = (refl, put.gave, put.calm)
+EndsAs-put given given' faults faults' wants wants' text (Err answer.Failed) put = (put.refuses, put.front)
+EndsAs-put given given' faults faults' wants wants' text (Err answer.Memory) put = put.front
 
 module _ (given given' given'' : Option (List ℕ)) (faults faults' faults'' : ℕ) (whole rest : RunText)
     (put : HasPut given given' faults faults' whole.text rest.text)
@@ -306,12 +306,12 @@ module _ {piece : Piece} {reading : Reading} {leaves : Bool} {units : ℕ} {whol
       omega (arith, within, ends, start, enough)
 
   -- the run ends before the next match
-  pub HasRun-stops : {A : Type 0} (given'' : Option (List ℕ)) (faults'' start : ℕ) (put : Result A PutAnswer) (end : RunEnd)
+  pub HasRun-stops : {A : Type 0} {wants wants' : ℕ} (given'' : Option (List ℕ)) (faults'' start : ℕ) (put : Result A PutAnswer) (end : RunEnd)
       → start ≡ run.between.start
       → (stops_at_end run.between.held.piece && nat_le units run.between.start) ≡ true
-      → IsPut given' given'' faults' faults'' (end_line (codes "end ") start start) put
+      → IsPut given' given'' faults' faults'' wants wants' (end_line (codes "end ") start start) put
       → end ≡ end_behind put → EndsAs whole given given'' faults faults'' end
-  HasRun-stops given'' faults'' start put end start_is stops is end_is =
+  HasRun-stops {wants = wants} {wants' = wants'} given'' faults'' start put end start_is stops is end_is =
       let at_end = run_from-at reading units run.fuel (run.fuel - 1) run.between true HasRun-steps stops in
       let text = ap (λ (place : ℕ). end_line (codes "end ") place place) start_is in
       subst (λ (last : RunEnd). EndsAs whole given given'' faults faults'' last) (sym end_is)
@@ -319,7 +319,7 @@ module _ {piece : Piece} {reading : Reading} {leaves : Bool} {units : ℕ} {whol
       (end_behind put)
       (subst (λ (rest : RunText). EndsAs rest given' given'' faults' faults'' (end_behind put)) (sym at_end)
       (subst (λ (line : List ℕ). EndsAs (record { text = line; full = None }) given' given'' faults' faults'' (end_behind put)) text
-      (EndsAs-put given' given'' faults' faults'' (end_line (codes "end ") start start) put is))))
+      (EndsAs-put given' given'' faults' faults'' wants wants' (end_line (codes "end ") start start) put is))))
 
   module _ {told : Outcome} {held' : Held} {feed' : Feed} (given'' : Option (List ℕ)) (faults'' : ℕ)
       (goes_on : (stops_at_end run.between.held.piece && nat_le units run.between.start) ≡ false)
@@ -379,15 +379,8 @@ module _ {piece : Piece} {reading : Reading} {leaves : Bool} {units : ℕ} {whol
               let more = cursor-behind matched.1 told matched.0 run.is.piece_is lines.0 in
               let steps = HasRun-steps in
               omega (arith, enough, cursor, more, steps);
-          put = HasPut-more {A = ℕ} {value = 0} (run_from reading units run.fuel run.between).text (match_lines told held') rest.text
-              (ap (λ (lines : RunText). lines.text) splits) run.put
-              (record {
-                gave = lines.1;
-                calm = lines.2;
-                refuses = tt;
-                front = tt;
-                never_falls = let calm = lines.2 in omega (arith, calm);
-              });
+          put = HasPut-part (run_from reading units run.fuel run.between).text (match_lines told held') rest.text
+              (ap (λ (lines : RunText). lines.text) splits) run.put lines.1 lines.2;
           full_is = sym (ap (λ (lines : RunText). lines.full) splits) ∙ run.full_is;
         }
 

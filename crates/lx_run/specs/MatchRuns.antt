@@ -1,4 +1,4 @@
--- That a match over a window ends as a run over the whole stream.
+-- That a match over a window ends as a run over the whole stream, and which matches a run makes.
 use Rattle.std.specs.Prelude.{◌≡◌, ◌≤◌, ℕ, List, ◌++◌, length, Bool, true, false}
 use Rattle.std.specs.List.{list_any}
 use Rattle.lx_ccode.specs.declared.piece.Piece.{Piece}
@@ -8,6 +8,7 @@ use Rattle.lx_ccode.specs.Statements.{all_statements, is_refill, is_state}
 use Rattle.lx_step.specs.Held.{Tells}
 use Rattle.lx_run.specs.Matches.{MatchEnd}
 use Rattle.lx_run.specs.Readings.{Reading}
+use Rattle.lx_run.specs.Texts.{Between, behind, is_followed, match_at}
 
 -- A match may start there, over a window that has the stream's units up to a limit: the scanner is left only in a piece that stores states, and a
 -- piece that never asks for a refill has the whole stream.
@@ -31,3 +32,10 @@ pub record EndsAsRun (piece : Piece) (reading : Reading) (start : ℕ) (cond : L
   pub first : schedule.first ≡ limit
   pub legal : IsLegal piece (length reading.stream) start schedule
   pub ends : IsEndOf end (run_of piece reading.stream start cond schedule)
+
+-- where a run makes its matches, from one place on: the next match is made behind one that is followed
+pub data IsOfRun (reading : Reading) (from : Between) : Between → Type 0 where
+  begins : IsOfRun reading from from
+  follows : {between : Between} → IsOfRun reading from between
+      → is_followed (match_at reading between).told (behind between (match_at reading between)).held ≡ true
+      → IsOfRun reading from (behind between (match_at reading between))

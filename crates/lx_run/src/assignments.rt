@@ -31,7 +31,7 @@ fn put_new_tag<O: Sink>(
 ) -> Result<(), PutAnswer>
     requires piece { lexer.now.piece ≡ piece.now }
     requires within { at < length lexer.now.assigned }
-    ensures { IsPut (O.given out.old) (O.given out.new) (O.faults out.old) (O.faults out.new)
+    ensures { IsPut (O.given out.old) (O.given out.new) (O.faults out.old) (O.faults out.new) (O.wants out.old) (O.wants out.new)
         (new_tag_text lexer.now (statements_at piece.now (take at lexer.now.assigned)) (statement_at piece.now (get_or lexer.now.assigned at no_place))) result }
 {
     let Some(statement) = statement_at(piece, lexer.assigned()[at]) else {
@@ -46,7 +46,7 @@ fn put_new_tag<O: Sink>(
 /// Puts the tags that the last match gave values, each once.
 fn put_tags<O: Sink>(out: &mut O, piece: &Piece, lexer: &Lexer<'_>) -> Result<(), PutAnswer>
     requires { lexer.now.piece ≡ piece.now }
-    ensures { IsPut (O.given out.old) (O.given out.new) (O.faults out.old) (O.faults out.new)
+    ensures { IsPut (O.given out.old) (O.given out.new) (O.faults out.old) (O.faults out.new) (O.wants out.old) (O.wants out.new)
         (tags_text lexer.now [] (assignments lexer.now)) result }
 {
     let places = lexer.assigned();
@@ -83,7 +83,7 @@ fn has_cond(piece: &Piece, places: &[StmtAt]) -> bool
 /// Puts the groups, where the last match counted them.
 fn put_counted<O: Sink>(out: &mut O, piece: &Piece, lexer: &Lexer<'_>) -> Result<(), PutAnswer>
     requires { lexer.now.piece ≡ piece.now }
-    ensures { IsPut (O.given out.old) (O.given out.new) (O.faults out.old) (O.faults out.new)
+    ensures { IsPut (O.given out.old) (O.given out.new) (O.faults out.old) (O.faults out.new) (O.wants out.old) (O.wants out.new)
         (if list_any is_count (assignments lexer.now) then groups_text (take lexer.now.given.groups lexer.now.given.entries) else []) result }
 {
     if !has_count(piece, lexer.assigned()) {
@@ -95,7 +95,7 @@ fn put_counted<O: Sink>(out: &mut O, piece: &Piece, lexer: &Lexer<'_>) -> Result
 /// Puts the condition, where the last match set it.
 fn put_cond<O: Sink>(out: &mut O, piece: &Piece, lexer: &Lexer<'_>) -> Result<(), PutAnswer>
     requires { lexer.now.piece ≡ piece.now }
-    ensures { IsPut (O.given out.old) (O.given out.new) (O.faults out.old) (O.faults out.new)
+    ensures { IsPut (O.given out.old) (O.given out.new) (O.faults out.old) (O.faults out.new) (O.wants out.old) (O.wants out.new)
         (if list_any is_cond (assignments lexer.now) then codes " => " ++ unwrap_or (cond_of lexer.now) [] else []) result }
 {
     if !has_cond(piece, lexer.assigned()) {
@@ -107,7 +107,7 @@ fn put_cond<O: Sink>(out: &mut O, piece: &Piece, lexer: &Lexer<'_>) -> Result<()
 /// Puts the values of the last match.
 pub fn put_values<O: Sink>(out: &mut O, piece: &Piece, lexer: &Lexer<'_>) -> Result<(), PutAnswer>
     requires { lexer.now.piece ≡ piece.now }
-    ensures { IsPut (O.given out.old) (O.given out.new) (O.faults out.old) (O.faults out.new) (values_text lexer.now) result }
+    ensures { IsPut (O.given out.old) (O.given out.new) (O.faults out.old) (O.faults out.new) (O.wants out.old) (O.wants out.new) (values_text lexer.now) result }
 {
     put_tags(out, piece, lexer)?;
     put_counted(out, piece, lexer)?;

@@ -13,7 +13,8 @@ use lx_files::{PutAnswer, Sink};
 use lx_step::{Lexer, Outcome};
 use std::marker::Model;
 
-/// A list of at most 1,024 bytes, which stands on the stack. It answers `Memory` to bytes for which it has no room.
+/// A list of at most 1,024 bytes, which stands on the stack. It answers `Memory` to bytes for which it has no room, and counts no answers:
+/// the count of wants stands at its last value.
 #[derive(Drop)]
 struct LineSink {
     kept: ArrayVec<u8, 1024>,
@@ -50,6 +51,8 @@ impl Sink for LineSink {
 
     ghost faults = { λ _. 0 };
 
+    ghost wants = { λ _. 18446744073709551615 };
+
     fn put(&mut self, bytes: &[u8]) -> Result<usize, PutAnswer> {
         match self.kept.try_extend_from_slice(bytes) {
             Ok(()) => Ok(bytes.len()),
@@ -66,7 +69,7 @@ pub fn put_lines_together<O: Sink>(
     outcome: Outcome,
 ) -> Result<bool, PutAnswer>
     requires { lexer.now.piece ≡ piece.now }
-    ensures put { IsPut (O.given out.old) (O.given out.new) (O.faults out.old) (O.faults out.new) (match_lines outcome lexer.now) result }
+    ensures put { IsPut (O.given out.old) (O.given out.new) (O.faults out.old) (O.faults out.new) (O.wants out.old) (O.wants out.new) (match_lines outcome lexer.now) result }
     ensures followed { IfOk result (λ followed. followed ≡ is_followed outcome lexer.now) }
 {
     let mut lines = LineSink::new();
@@ -86,7 +89,7 @@ pub fn put_end_line_together<O: Sink>(
     start: u64,
     cursor: u64,
 ) -> Result<(), PutAnswer>
-    ensures { IsPut (O.given out.old) (O.given out.new) (O.faults out.old) (O.faults out.new) (end_line word.now start cursor) result }
+    ensures { IsPut (O.given out.old) (O.given out.new) (O.faults out.old) (O.faults out.new) (O.wants out.old) (O.wants out.new) (end_line word.now start cursor) result }
 {
     let mut line = LineSink::new();
     match put_end_line(&mut line, word, start, cursor) {

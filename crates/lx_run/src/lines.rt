@@ -19,7 +19,7 @@ fn put_front<O: Sink>(
     rule: u32,
     lexer: &Lexer<'_>,
 ) -> Result<(), PutAnswer>
-    ensures { IsPut (O.given out.old) (O.given out.new) (O.faults out.old) (O.faults out.new)
+    ensures { IsPut (O.given out.old) (O.given out.new) (O.faults out.old) (O.faults out.new) (O.wants out.old) (O.wants out.new)
         (joined (word.now ∷ decimal rule ∷ codes " " ∷ decimal lexer.now.start ∷ codes " " ∷ decimal lexer.now.cursor ∷ []) []) result }
 {
     let mut number = Buffer::new();
@@ -47,7 +47,7 @@ pub fn put_match_line<O: Sink>(
     lexer: &Lexer<'_>,
 ) -> Result<(), PutAnswer>
     requires { lexer.now.piece ≡ piece.now }
-    ensures { IsPut (O.given out.old) (O.given out.new) (O.faults out.old) (O.faults out.new) (match_line word.now rule lexer.now) result }
+    ensures { IsPut (O.given out.old) (O.given out.new) (O.faults out.old) (O.faults out.new) (O.wants out.old) (O.wants out.new) (match_line word.now rule lexer.now) result }
 {
     put_front(out, word, rule, lexer)?;
     put_values(out, piece, lexer)?;
@@ -61,7 +61,7 @@ pub fn put_end_line<O: Sink>(
     start: u64,
     cursor: u64,
 ) -> Result<(), PutAnswer>
-    ensures { IsPut (O.given out.old) (O.given out.new) (O.faults out.old) (O.faults out.new) (end_line word.now start cursor) result }
+    ensures { IsPut (O.given out.old) (O.given out.new) (O.faults out.old) (O.faults out.new) (O.wants out.old) (O.wants out.new) (end_line word.now start cursor) result }
 {
     let mut from = Buffer::new();
     let mut to = Buffer::new();
@@ -79,7 +79,7 @@ pub fn put_end_line<O: Sink>(
 
 /// Puts the line of a run that stops.
 pub fn put_stop_line<O: Sink>(out: &mut O, cursor: u64) -> Result<(), PutAnswer>
-    ensures { IsPut (O.given out.old) (O.given out.new) (O.faults out.old) (O.faults out.new) (stop_line cursor) result }
+    ensures { IsPut (O.given out.old) (O.given out.new) (O.faults out.old) (O.faults out.new) (O.wants out.old) (O.wants out.new) (stop_line cursor) result }
 {
     let mut digits = Buffer::new();
     put_parts(out, &[b"stop ", digits.format(cursor).as_bytes(), b"\n"])

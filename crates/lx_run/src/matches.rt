@@ -18,7 +18,7 @@ fn put_rule<O: Sink>(
     lexer: &Lexer<'_>,
 ) -> Result<bool, PutAnswer>
     requires { lexer.now.piece ≡ piece.now }
-    ensures put { IsPut (O.given out.old) (O.given out.new) (O.faults out.old) (O.faults out.new) (match_line word.now rule lexer.now ++ stop_behind lexer.now) result }
+    ensures put { IsPut (O.given out.old) (O.given out.new) (O.faults out.old) (O.faults out.new) (O.wants out.old) (O.wants out.new) (match_line word.now rule lexer.now ++ stop_behind lexer.now) result }
     ensures followed { IfOk result (λ followed. followed ≡ not (lexer.now.cursor == lexer.now.start)) }
 {
     put_match_line(out, word, rule, piece, lexer)?;
@@ -31,7 +31,7 @@ fn put_rule<O: Sink>(
 
 /// Puts the line of a match by which the run ends.
 fn put_end<O: Sink>(out: &mut O, word: &[u8], lexer: &Lexer<'_>) -> Result<bool, PutAnswer>
-    ensures put { IsPut (O.given out.old) (O.given out.new) (O.faults out.old) (O.faults out.new) (end_line word.now lexer.now.start lexer.now.cursor) result }
+    ensures put { IsPut (O.given out.old) (O.given out.new) (O.faults out.old) (O.faults out.new) (O.wants out.old) (O.wants out.new) (end_line word.now lexer.now.start lexer.now.cursor) result }
     ensures last { IfOk result (λ followed. followed ≡ false) }
 {
     put_end_line(out, word, lexer.start(), lexer.cursor())?;
@@ -47,7 +47,7 @@ pub fn put_lines<O: Sink>(
     outcome: Outcome,
 ) -> Result<bool, PutAnswer>
     requires { lexer.now.piece ≡ piece.now }
-    ensures put { IsPut (O.given out.old) (O.given out.new) (O.faults out.old) (O.faults out.new) (match_lines outcome lexer.now) result }
+    ensures put { IsPut (O.given out.old) (O.given out.new) (O.faults out.old) (O.faults out.new) (O.wants out.old) (O.wants out.new) (match_lines outcome lexer.now) result }
     ensures followed { IfOk result (λ followed. followed ≡ is_followed outcome lexer.now) }
 {
     match outcome {

@@ -22,7 +22,7 @@ fn offset_text(buffer: &mut Buffer, offset: Option<u64>) -> &[u8]
 
 /// Puts an offset, or `-` for none.
 fn put_offset<O: Sink>(out: &mut O, offset: Option<u64>) -> Result<(), PutAnswer>
-    ensures { IsPut (O.given out.old) (O.given out.new) (O.faults out.old) (O.faults out.new) (offset_text offset) result }
+    ensures { IsPut (O.given out.old) (O.given out.new) (O.faults out.old) (O.faults out.new) (O.wants out.old) (O.wants out.new) (offset_text offset) result }
 {
     let mut buffer = Buffer::new();
     put(out, offset_text(&mut buffer, offset))
@@ -30,7 +30,7 @@ fn put_offset<O: Sink>(out: &mut O, offset: Option<u64>) -> Result<(), PutAnswer
 
 /// Puts an entry of a history, behind a comma.
 fn put_entry<O: Sink>(out: &mut O, entry: Option<u64>) -> Result<(), PutAnswer>
-    ensures { IsPut (O.given out.old) (O.given out.new) (O.faults out.old) (O.faults out.new) (codes "," ++ offset_text entry) result }
+    ensures { IsPut (O.given out.old) (O.given out.new) (O.faults out.old) (O.faults out.new) (O.wants out.old) (O.wants out.new) (codes "," ++ offset_text entry) result }
 {
     let mut buffer = Buffer::new();
     put_parts(out, &[b",", offset_text(&mut buffer, entry)])
@@ -38,7 +38,7 @@ fn put_entry<O: Sink>(out: &mut O, entry: Option<u64>) -> Result<(), PutAnswer>
 
 /// Puts entries of a history, each behind a comma.
 fn put_entries<O: Sink>(out: &mut O, entries: &[Option<u64>]) -> Result<(), PutAnswer>
-    ensures { IsPut (O.given out.old) (O.given out.new) (O.faults out.old) (O.faults out.new) (entries_text entries.now) result }
+    ensures { IsPut (O.given out.old) (O.given out.new) (O.faults out.old) (O.faults out.new) (O.wants out.old) (O.wants out.new) (entries_text entries.now) result }
 {
     for entry in entries {
         put_entry(out, *entry)?;
@@ -48,7 +48,7 @@ fn put_entries<O: Sink>(out: &mut O, entries: &[Option<u64>]) -> Result<(), PutA
 
 /// Puts a history, with commas between its entries.
 fn put_history<O: Sink>(out: &mut O, entries: &[Option<u64>]) -> Result<(), PutAnswer>
-    ensures { IsPut (O.given out.old) (O.given out.new) (O.faults out.old) (O.faults out.new) (history_text entries.now) result }
+    ensures { IsPut (O.given out.old) (O.given out.new) (O.faults out.old) (O.faults out.new) (O.wants out.old) (O.wants out.new) (history_text entries.now) result }
 {
     let Some((first, others)) = entries.split_first() else {
         return Ok(());
@@ -63,7 +63,7 @@ fn put_tag_history<O: Sink>(
     name: &[u8],
     entries: &[Option<u64>],
 ) -> Result<(), PutAnswer>
-    ensures { IsPut (O.given out.old) (O.given out.new) (O.faults out.old) (O.faults out.new)
+    ensures { IsPut (O.given out.old) (O.given out.new) (O.faults out.old) (O.faults out.new) (O.wants out.old) (O.wants out.new)
         (joined (codes " " ∷ name.now ∷ codes "=[" ∷ history_text entries.now ∷ codes "]" ∷ []) []) result }
 {
     put_parts(out, &[b" ", name, b"=["])?;
@@ -73,7 +73,7 @@ fn put_tag_history<O: Sink>(
 
 /// Puts the value that a statement gave a tag.
 pub fn put_tag<O: Sink>(out: &mut O, lexer: &Lexer<'_>, statement: &Stmt) -> Result<(), PutAnswer>
-    ensures { IsPut (O.given out.old) (O.given out.new) (O.faults out.old) (O.faults out.new) (tag_text lexer.now statement.now) result }
+    ensures { IsPut (O.given out.old) (O.given out.new) (O.faults out.old) (O.faults out.new) (O.wants out.old) (O.wants out.new) (tag_text lexer.now statement.now) result }
 {
     match statement {
         Stmt::Tag(name, false, _) => {
@@ -91,7 +91,7 @@ pub fn put_tag<O: Sink>(out: &mut O, lexer: &Lexer<'_>, statement: &Stmt) -> Res
 
 /// Puts the ends of a group.
 fn put_group<O: Sink>(out: &mut O, group: Group) -> Result<(), PutAnswer>
-    ensures { IsPut (O.given out.old) (O.given out.new) (O.faults out.old) (O.faults out.new) (group_text group) result }
+    ensures { IsPut (O.given out.old) (O.given out.new) (O.faults out.old) (O.faults out.new) (O.wants out.old) (O.wants out.new) (group_text group) result }
 {
     let mut from = Buffer::new();
     let mut to = Buffer::new();
@@ -109,7 +109,7 @@ fn put_group<O: Sink>(out: &mut O, group: Group) -> Result<(), PutAnswer>
 
 /// Puts the ends of groups.
 pub fn put_groups<O: Sink>(out: &mut O, groups: &[Group]) -> Result<(), PutAnswer>
-    ensures { IsPut (O.given out.old) (O.given out.new) (O.faults out.old) (O.faults out.new) (groups_text groups.now) result }
+    ensures { IsPut (O.given out.old) (O.given out.new) (O.faults out.old) (O.faults out.new) (O.wants out.old) (O.wants out.new) (groups_text groups.now) result }
 {
     for group in groups {
         put_group(out, *group)?;

@@ -1,11 +1,14 @@
 //! Matches over a window, and runs of them.
-ghost use Rattle.std.specs.Prelude.{◌≡◌, ◌≤◌, ◌-◌, ◌⊎◌, ◌&&◌, ◌==◌, Bool, ℕ, length, suc, Some};
+ghost use Rattle.std.specs.Prelude.{◌≡◌, ◌≤◌, ◌-◌, ◌⊎◌, ◌&&◌, ◌==◌, Bool, ℕ, length, suc, true, Some};
+ghost use Rattle.std.specs.List.{list_any};
+ghost use Rattle.lx_ccode.specs.Statements.{all_statements};
 ghost use Rattle.lx_ccode.specs.Validity.{IsValid};
+ghost use Rattle.lx_files.specs.Counts.{Rose};
 ghost use Rattle.lx_step.specs.Feeds.{feed_of};
-ghost use Rattle.lx_step.specs.Held.{fresh};
+ghost use Rattle.lx_step.specs.Held.{fresh, is_on_histories};
 ghost use Rattle.lx_window.specs.MemorySource.{ahead_of};
 ghost use Rattle.lx_window.specs.Windows.{IsFormed};
-ghost use Rattle.lx_run.specs.Ends.{EndsAs, end_behind};
+ghost use Rattle.lx_run.specs.Ends.{EndsAs, RunLacksMemory, end_behind};
 ghost use Rattle.lx_run.specs.Readings.{Reading};
 ghost use Rattle.lx_run.specs.Streams as spec;
 ghost use Rattle.lx_run.specs.Streams.{stops_at_end};
@@ -39,6 +42,7 @@ fn match_over<'p>(
     requires stands { MayMatch piece.now lexer (feed_of (ahead_of src.old) w.old) src.old.unit }
     ensures matched { (reading : Reading) (leaves : Bool) (between : Between) → IsBetween piece.now reading leaves between lexer.entry (feed_of (ahead_of src.old) w.old)
         → (result.outcome ≡ Outcome.Memory) ⊎ ((result.outcome ≡ (match_at reading between).told) × HasMatched piece.now reading leaves between result.lexer (feed_of (ahead_of src.new) w.new)) }
+    ensures memory { result.outcome ≡ Outcome.Memory → list_any is_on_histories (all_statements piece.now.blocks) ≡ true }
     ensures piece { result.lexer.piece ≡ piece.now }
     ensures source_unit { src.new.unit ≡ src.old.unit }
 {
@@ -107,7 +111,9 @@ fn end_of<O: Sink>(
     requires { lexer.now.piece ≡ piece.now }
     ensures ends { LinesEnd outcome lexer.now (O.given out.old) (O.given out.new) (O.faults out.old) (O.faults out.new) result }
     ensures memory { outcome ≡ Outcome.Memory → result ≡ Some RunEnd.Memory }
+    ensures lacks { result ≡ Some RunEnd.Memory → (outcome ≡ Outcome.Memory) ⊎ Rose (O.wants out.old) (O.wants out.new) }
     ensures never_falls { O.faults out.old ≤ O.faults out.new }
+    ensures wants_never_fall { O.wants out.old ≤ O.wants out.new }
 {
     match outcome {
         Outcome::WindowFull { kept, need, size } => Some(RunEnd::WindowFull { kept, need, size }),
@@ -134,7 +140,9 @@ fn run_matches<'p, O: Sink>(
     requires stands { MayRun piece.now lexer (feed_of (ahead_of src.old) w.old) src.old.unit }
     ensures ends { (reading : Reading) (leaves : Bool) (between : Between) → IsBetween piece.now reading leaves between lexer.entry (feed_of (ahead_of src.old) w.old) → IsEarly reading
         → EndsAs (run_from reading input.units (suc (length reading.stream - between.start)) between) (O.given out.old) (O.given out.new) (O.faults out.old) (O.faults out.new) result }
+    ensures memory { result ≡ RunEnd.Memory → RunLacksMemory piece.now (O.wants out.old) (O.wants out.new) }
     ensures never_falls { O.faults out.old ≤ O.faults out.new }
+    ensures wants_never_fall { O.wants out.old ≤ O.wants out.new }
 {
     let mut lexer = lexer;
     loop {
@@ -159,8 +167,8 @@ fn run_matches<'p, O: Sink>(
 /// soon as it is made, and one for the end of the run.
 ///
 /// The window is empty, and its buffer holds all units where the scanner asks for none. The source has given nothing, and leaves the
-/// scanner where the piece stores states; then one refill acts on the window, and the lexer comes back to the match. `Memory` may be
-/// answered, and no clause ties it to a cause.
+/// scanner where the piece stores states; then one refill acts on the window, and the lexer comes back to the match. `Memory` comes only
+/// where a statement of the piece is on histories, or where the sink refused a put for want of memory.
 pub fn run_window<'p, O: Sink>(
     piece: &'p Piece,
     lexer: Lexer<'p>,
@@ -174,7 +182,9 @@ pub fn run_window<'p, O: Sink>(
     requires begins { MayBegin piece.now w.old src.old }
     ensures ends { let reading = reading_by w.old src.old in
         EndsAs (run_from reading units (suc (length reading.stream)) (beginning piece.now reading)) (O.given out.old) (O.given out.new) (O.faults out.old) (O.faults out.new) result }
+    ensures memory { result ≡ RunEnd.Memory → RunLacksMemory piece.now (O.wants out.old) (O.wants out.new) }
     ensures never_falls { O.faults out.old ≤ O.faults out.new }
+    ensures wants_never_fall { O.wants out.old ≤ O.wants out.new }
 {
     let ending = ending_of(piece);
     begin_run(piece, ending.holds_all, w, src);

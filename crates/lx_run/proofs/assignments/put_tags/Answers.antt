@@ -1,7 +1,7 @@
 use Rattle.std.proofs.Common.{◌<◌, length, subst}
 use Rattle.lx_step.specs.Firsts.{no_place}
 use Rattle.lx_run.proofs.Appending.{tags_text-at}
-use Rattle.lx_run.proofs.PutTexts.{HasPut-more, IsPut-refused}
+use Rattle.lx_run.proofs.PutTexts.{HasGiven-more, IsPut-refused}
 use Rattle.lx_run.proofs.assignments.put_tags.Goals as goal
 
 pub returns-in_err-put_new_tag : goal.returns-in_err-put_new_tag
@@ -12,4 +12,4 @@ returns-in_err-put_new_tag g c =
 pub loop-at-preserved : goal.loop-at-preserved
 loop-at-preserved g c =
     let next = tags_text-at c.args.lexer.now c.args.piece.now c.args.lexer.now.assigned c.loop-at.at no_place (subst (λ places. c.loop-at.at < length places) c.assigned-places.ensures c.loop-at-test.true) in
-    HasPut-more _ _ _ next c.loop-at.invariant c.in_ok-put_new_tag.ensures
+    HasGiven-more _ _ _ next c.loop-at.invariant c.in_ok-put_new_tag.ensures

@@ -1,10 +1,10 @@
 use Rattle.std.proofs.Common.{[], drop, take}
-use Rattle.lx_files.proofs.PutLemmas.{HasPut}
 use Rattle.lx_run.specs.Values.{assignments, statements_at, tags_text}
+use Rattle.lx_run.proofs.PutTexts.{HasGiven}
 use Rattle.lx_run.proofs.assignments.put_tags.Given as goal
 
 abbrev pub invariant-loop-at : goal.invariant-loop-at
 invariant-loop-at g l =
-    HasPut (g.O.Sink.given l.initial.out) (g.O.Sink.given l.out) (g.O.Sink.faults l.initial.out) (g.O.Sink.faults l.out)
+    HasGiven (g.O.Sink.given l.initial.out) (g.O.Sink.given l.out) (g.O.Sink.faults l.initial.out) (g.O.Sink.faults l.out) (g.O.Sink.wants l.initial.out) (g.O.Sink.wants l.out)
     (tags_text l.lexer [] (assignments l.lexer))
     (tags_text l.lexer (statements_at l.piece (take l.at l.lexer.assigned)) (statements_at l.piece (drop l.at l.lexer.assigned)))

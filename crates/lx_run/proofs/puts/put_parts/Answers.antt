@@ -1,7 +1,7 @@
 use Rattle.std.proofs.Common.{ℕ, List, [], ap, map}
 use Rattle.std.specs.Borrow.{Bor}
 use Rattle.lx_base.specs.Text.{joined}
-use Rattle.lx_run.proofs.PutTexts.{HasPut-more, IsPut-refused, drop-next}
+use Rattle.lx_run.proofs.PutTexts.{HasGiven-more, IsPut-refused, drop-next}
 use Rattle.lx_run.proofs.puts.put_parts.Goals as goal
 
 pub returns-in_err-put : goal.returns-in_err-put
@@ -12,4 +12,4 @@ returns-in_err-put g c =
 pub loop-part-preserved : goal.loop-part-preserved
 loop-part-preserved g c =
     let next = ap (λ (parts : List (Bor (List ℕ))). joined (map (λ part. part.now) parts) []) (drop-next c.args.parts.now c.loop-part.part-index _ c.loop-part-test.true) in
-    HasPut-more _ _ _ next c.loop-part.invariant c.in_ok-put.ensures
+    HasGiven-more _ _ _ next c.loop-part.invariant c.in_ok-put.ensures

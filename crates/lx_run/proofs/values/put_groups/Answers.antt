@@ -1,6 +1,6 @@
 use Rattle.std.proofs.Common.{ap}
 use Rattle.lx_run.specs.Values.{groups_text}
-use Rattle.lx_run.proofs.PutTexts.{HasPut-more, IsPut-refused, drop-next}
+use Rattle.lx_run.proofs.PutTexts.{HasGiven-more, IsPut-refused, drop-next}
 use Rattle.lx_run.proofs.values.put_groups.Goals as goal
 
 pub returns-in_err-put_group : goal.returns-in_err-put_group
@@ -11,4 +11,4 @@ returns-in_err-put_group g c =
 pub loop-group-preserved : goal.loop-group-preserved
 loop-group-preserved g c =
     let next = ap groups_text (drop-next c.args.groups.now c.loop-group.group-index _ c.loop-group-test.true) in
-    HasPut-more _ _ _ next c.loop-group.invariant c.in_ok-put_group.ensures
+    HasGiven-more _ _ _ next c.loop-group.invariant c.in_ok-put_group.ensures

@@ -1,8 +1,10 @@
-use Rattle.std.proofs.Common.{◌≡◌, ◌∙◌, ap, sym, subst, refl, Option, None, Some, ◌<◌, length, ◌+◌, ◌/◌}
+use Rattle.std.proofs.Common.{◌≡◌, ◌∙◌, ap, sym, subst, refl, true, Option, None, Some, ◌<◌, length, ◌+◌, ◌/◌}
 use Rattle.std.specs.Prelude.{IfSome, if◌then◌else◌}
+use Rattle.std.specs.List.{list_any}
 use Rattle.lx_ccode.specs.declared.piece.Piece.{Piece}
+use Rattle.lx_ccode.specs.Statements.{all_statements}
 use Rattle.lx_step.specs.Feeds.{feed_of}
-use Rattle.lx_step.specs.Held.{Held}
+use Rattle.lx_step.specs.Held.{Held, is_on_histories}
 use Rattle.lx_window.specs.MemorySource.{ahead_of}
 use Rattle.lx_run.proofs.MatchLoops.{Rose-none, feed_chances-source, made-call, some_answer}
 use Rattle.lx_run.proofs.WindowMatches.{IsAdvance-room, IsResumed-left, IsUnderWay-begun, feed_chances}
@@ -86,6 +88,8 @@ returns-in_default c =
           let way = c.loop-w.invariant.way reading leaves between is in
           made-call c.args.piece.now reading leaves between _ _ _ _ way c.advance.result (c.advance.ensures.advance way.fit)
           c.in_default.not-NeedFill (λ failed. Rose-none (c.advance.ensures.fails failed));
+      memory = λ told.
+          subst (λ (one : Piece). list_any is_on_histories (all_statements one.blocks) ≡ true) c.loop-w.invariant.piece_is (c.advance.ensures.memory told);
       piece = (c.advance.ensures.advance one.fit).piece ∙ one.same_piece;
       source_unit = c.advance.ensures.source.same_unit ∙ c.loop-w.invariant.source_unit;
     }

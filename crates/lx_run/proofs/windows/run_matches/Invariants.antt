@@ -11,6 +11,7 @@ abbrev pub invariant-loop-input : goal.invariant-loop-input
 invariant-loop-input g l = record {
   source_unit : l.src.unit ≡ l.piece.unit;
   never_falls : g.O.Sink.faults l.initial.out ≤ g.O.Sink.faults l.out;
+  wants_never_fall : g.O.Sink.wants l.initial.out ≤ g.O.Sink.wants l.out;
   runs : (reading : Reading) (leaves : Bool) (between : Between)
       → IsBetween l.piece reading leaves between l.initial.lexer (feed_of (ahead_of l.initial.src) l.initial.w) → IsEarly reading
       → HasRun l.piece reading leaves l.input.units (run_from reading l.input.units (suc (length reading.stream - between.start)) between)
