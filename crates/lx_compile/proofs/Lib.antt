@@ -25,6 +25,9 @@ pub mod OutputCuts
 pub mod OutsideTexts
 pub mod PieceActions
 pub mod PlacedPieces
+pub mod QuietOutputs
+pub mod QuietSources
+pub mod QuietTexts
 pub mod RenumberedChecks
 pub mod ScannerRuns
 pub mod ScanningRuns

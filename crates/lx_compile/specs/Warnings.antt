@@ -70,6 +70,19 @@ warnings_of (one ∷ made) = warnings_in one ++ warnings_of made
 abbrev pub told_warnings : Options → List Made → List PlacedWarning
 told_warnings options made = if tells_warnings options then warnings_of made else []
 
+-- the same options, by which no warnings are asked for
+abbrev pub quiet_options : Options → Options
+quiet_options options = record options { warn = false }
+
+-- what is made, but for its warnings
+abbrev pub quiet_one : Made → Made
+quiet_one (Scanners piece checks warnings cover groups) = Scanners piece checks [] cover groups
+quiet_one other = other
+
+abbrev pub quiet_made : List Made → List Made
+quiet_made [] = []
+quiet_made (one ∷ made) = quiet_one one ∷ quiet_made made
+
 -- ---- how it is told
 
 -- code units, each behind a space

@@ -11,8 +11,8 @@ ghost use Rattle.lx_split.specs.Openers.{from_opener};
 ghost use Rattle.lx_compile.specs.Cut.{IsFound, output_parts};
 ghost use Rattle.lx_compile.specs.FirstFault.{AreMadeOf, IsFirstFault};
 ghost use Rattle.lx_compile.specs.Options.{names_output, out_name};
-ghost use Rattle.lx_compile.specs.Output.{IsOutput, last_names};
-ghost use Rattle.lx_compile.specs.Warnings.{IsPlacedWarning, told_warnings};
+ghost use Rattle.lx_compile.specs.Output.{IsGiven, IsOutput, last_names};
+ghost use Rattle.lx_compile.specs.Warnings.{IsPlacedWarning, quiet_made, quiet_options, told_warnings};
 ghost use Rattle.lx_compile.specs.declared.made.Made.{Made};
 
 /// At most one fault is the first one of a source of which this is made, and none is where the source has none.
@@ -37,6 +37,13 @@ pub fn faults_stand_in_files_that_are_met()
 pub fn warnings_stand_in_files_that_are_met()
     ensures { (options : Options) (seen : List HeldFile) (main output : List ℕ) (made : List Made) → IsOutput options seen main made output →
         All (IsPlacedWarning (expansion options seen main).met.names) (told_warnings options made) }
+{}
+
+/// Warnings change nothing that is given: what a compilation may give where they are asked for, it may give without them, where the same is
+/// made but for its warnings.
+pub fn warnings_change_nothing_given()
+    ensures { (options : Options) (seen : List HeldFile) (main text : List ℕ) (made : List Made) → IsGiven options seen main made text →
+        IsGiven (quiet_options options) seen main (quiet_made made) text }
 {}
 
 /// A source in which no block opens has itself as output, and no other one.
