@@ -1,5 +1,5 @@
 -- What is given where warnings are asked for may be given without them.
-use Rattle.std.proofs.Common.{◌≡◌, ◌∙◌, ℕ, suc, List, [], ◌∷◌, Option, Result, refl, sym, ap, subst}
+use Rattle.std.proofs.Common.{◌∙◌, ℕ, suc, List, [], ◌∷◌, Option, Result, refl, sym, ap, subst}
 use Rattle.std.specs.Prelude.{if◌then◌else◌}
 use Rattle.lx_base.specs.declared.blocks.BlockKind.{BlockKind}
 use Rattle.lx_base.specs.declared.faults.Fault.{Fault}
