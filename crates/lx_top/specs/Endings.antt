@@ -11,9 +11,8 @@ use Rattle.lx_base.specs.declared.faults.Fault.{Fault}
 use Rattle.lx_base.specs.declared.faults.Fault.TheVariants.{Usage}
 use Rattle.lx_files.specs.Counts.{Rose}
 use Rattle.lx_files.specs.Held.{IsFront, Sees}
-use Rattle.lx_files.specs.Taking.{GivesFront, RefusesPut, given_then}
+use Rattle.lx_files.specs.Taking.{GivesFront, given_then}
 use Rattle.lx_files.specs.declared.files.HeldFile.{HeldFile}
-use Rattle.lx_files.specs.declared.sinks.PutAnswer.{PutAnswer}
 use Rattle.lx_compile.specs.declared.made.Made.{Made}
 use Rattle.lx_top.specs.Delivery.{Completes, GivesOut, BreaksOff, DeliversBefore, DeliversNothing}
 use Rattle.lx_top.specs.FirstFault.{IsFirstFault}
@@ -40,17 +39,18 @@ failure_text ReadFailed = codes "re2c: error: read failed\n"
 failure_text PutFailed = codes "re2c: error: write failed\n"
 failure_text OutOfMemory = codes "re2c: error: out of memory\n"
 
--- A text was put whole, and no put failed; or a front of it was put, and then a put was refused: the count of failed puts rose, or memory ran out.
+-- A text was put whole, and no put failed; or a front of it was put, and then a put was refused: the count of failed puts rose, or that of puts
+-- that wanted memory.
 abbrev pub PutsText : (text : List ℕ) → SinkView → SinkView → Type 0
 PutsText text err err' =
     ((err'.given ≡ given_then err.given text) × (err'.faults ≡ err.faults))
-    ⊎ (GivesFront err.given err'.given text × ((refused : PutAnswer) × RefusesPut err.faults err'.faults refused))
+    ⊎ (GivesFront err.given err'.given text × (Rose err.faults err'.faults ⊎ Rose err.wants err'.wants))
 
--- A front of a message was told, at which the sink had so many faults, and then the ending's own text.
+-- A front of a message was told, at which the sink had such counts, and then the ending's own text.
 abbrev pub TellsFront : (message : List ℕ) → Ending → SinkView → SinkView → Type 0
 TellsFront message ending err err' =
-    (front : List ℕ) × (faults : ℕ) × IsFront front message × (err.faults ≤ faults)
-    × PutsText (failure_text ending) (sink_view (given_then err.given front) faults) err'
+    (front : List ℕ) × (faults wants : ℕ) × IsFront front message × (err.faults ≤ faults) × (err.wants ≤ wants)
+    × PutsText (failure_text ending) (sink_view (given_then err.given front) faults wants) err'
 
 -- how a message is told: whole, or a front of it and then the ending's own text
 abbrev pub TellsMessage : (message : List ℕ) → SinkView → SinkView → Ending → Type 0

@@ -9,16 +9,17 @@ pub record FilesView : Type 0 where
   pub faults : ℕ
   pub write_faults : ℕ
 
--- what was given to a sink, where that is told, and its count of faults
+-- what was given to a sink, where that is told, its count of faults, and that of puts that wanted memory
 pub record SinkView : Type 0 where
   pub given : Option (List ℕ)
   pub faults : ℕ
+  pub wants : ℕ
 
 abbrev pub files_view : Option (List HeldFile) → ℕ → ℕ → FilesView
 files_view held faults write_faults = record { held = held; faults = faults; write_faults = write_faults }
 
-abbrev pub sink_view : Option (List ℕ) → ℕ → SinkView
-sink_view given faults = record { given = given; faults = faults }
+abbrev pub sink_view : Option (List ℕ) → ℕ → ℕ → SinkView
+sink_view given faults wants = record { given = given; faults = faults; wants = wants }
 
 -- the files, the standard output and the standard error
 pub record Outside : Type 0 where

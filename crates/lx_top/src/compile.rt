@@ -27,8 +27,8 @@ fn give_output<F: Files, O: Sink>(
 ) -> Result<(), Halt>
     ensures ends { let files_before = files_view (F.held files.old) (F.faults files.old) (F.write_faults files.old) in
         let files_after = files_view (F.held files.new) (F.faults files.new) (F.write_faults files.new) in
-        let before = sink_view (O.given out.old) (O.faults out.old) in
-        let after = sink_view (O.given out.new) (O.faults out.new) in
+        let before = sink_view (O.given out.old) (O.faults out.old) (O.wants out.old) in
+        let after = sink_view (O.given out.new) (O.faults out.new) (O.wants out.new) in
         let target = option_map (λ name. name.now) target.entry in
         JobEnds false (λ fault. fault ≡ None) target (GoesTo target (λ given. given ≡ output.now)) files_before files_after before after result }
 {
@@ -52,8 +52,8 @@ pub(crate) fn compile<F: Files, O: Sink>(
     requires names { names.old ≡ [] }
     ensures ends { let files_before = files_view (F.held files.old) (F.faults files.old) (F.write_faults files.old) in
         let files_after = files_view (F.held files.new) (F.faults files.new) (F.write_faults files.new) in
-        let before = sink_view (O.given out.old) (O.faults out.old) in
-        let after = sink_view (O.given out.new) (O.faults out.new) in
+        let before = sink_view (O.given out.old) (O.faults out.old) (O.wants out.old) in
+        let after = sink_view (O.given out.new) (O.faults out.new) (O.wants out.new) in
         let target = option_map (λ name. name.now) target.entry in
         (seen : List HeldFile) × (made : List Made) × Sees (F.held files.old) seen
         × JobEnds false (IsFirstFault options.now seen name.now made) target (GoesTo target (IsGiven options.now seen name.now made)) files_before files_after before after result

@@ -32,8 +32,8 @@ pub(crate) fn deliver<F: Files, O: Sink>(
 ) -> Result<(), Halt>
     ensures ends { let files_before = files_view (F.held files.old) (F.faults files.old) (F.write_faults files.old) in
         let files_after = files_view (F.held files.new) (F.faults files.new) (F.write_faults files.new) in
-        let before = sink_view (O.given out.old) (O.faults out.old) in
-        let after = sink_view (O.given out.new) (O.faults out.new) in
+        let before = sink_view (O.given out.old) (O.faults out.old) (O.wants out.old) in
+        let after = sink_view (O.given out.new) (O.faults out.new) (O.wants out.new) in
         JobEnds false (λ fault. fault ≡ None) (option_map (λ name. name.now) target.entry) (λ given put. (given ≡ bytes.now) × (put ≡ text.now)) files_before files_after before after result }
 {
     write_to(files, target, bytes)?;

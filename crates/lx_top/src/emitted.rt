@@ -45,8 +45,8 @@ pub(crate) fn run_emitted<F: Files, O: Sink>(
     requires step { 0 < units.step }
     ensures ends { let files_before = files_view (F.held files.old) (F.faults files.old) (F.write_faults files.old) in
         let files_after = files_view (F.held files.new) (F.faults files.new) (F.write_faults files.new) in
-        let before = sink_view (O.given out.old) (O.faults out.old) in
-        let after = sink_view (O.given out.new) (O.faults out.new) in
+        let before = sink_view (O.given out.old) (O.faults out.old) (O.wants out.old) in
+        let after = sink_view (O.given out.new) (O.faults out.new) (O.wants out.new) in
         (seen : List HeldFile) × Sees (F.held files.old) seen
         × JobEnds true (IsRunFault block units.window units.step input.now (bytes_of seen input.now) emitted.now (bytes_of seen emitted.now)) None (λ bytes text. (bytes ≡ []) × IsRunText block units.window units.step (bytes_of seen emitted.now) (bytes_of seen input.now) text) files_before files_after before after result }
     ensures placed { IfErr result (IsPlacedHalt (emitted.now ∷ input.now ∷ [])) }
@@ -109,8 +109,8 @@ fn run_scanner<O: Sink>(
     requires valid { IsValid piece.now }
     requires window { 0 < units.window }
     requires step { 0 < units.step }
-    ensures ends { let before = sink_view (O.given out.old) (O.faults out.old) in
-        let after = sink_view (O.given out.new) (O.faults out.new) in
+    ensures ends { let before = sink_view (O.given out.old) (O.faults out.old) (O.wants out.old) in
+        let after = sink_view (O.given out.new) (O.faults out.new) (O.wants out.new) in
         (files : FilesView) → JobEnds true (λ fault. fault ≡ scan_fault piece.now units.window units.step input.items) None (λ bytes text. (bytes ≡ []) × (text ≡ (run_text piece.now input.items units.window units.step).text)) files files before after result }
     ensures placed { (emitted name : List ℕ) → IfErr result (IsPlacedHalt (emitted ∷ name ∷ [])) }
 {

@@ -34,8 +34,8 @@ pub fn perform<F: Files, O: Sink>(
     ensures ends { let texts = map string_bytes words.now in
         let files_before = files_view (F.held files.old) (F.faults files.old) (F.write_faults files.old) in
         let files_after = files_view (F.held files.new) (F.faults files.new) (F.write_faults files.new) in
-        let before = sink_view (O.given out.old) (O.faults out.old) in
-        let after = sink_view (O.given out.new) (O.faults out.new) in
+        let before = sink_view (O.given out.old) (O.faults out.old) (O.wants out.old) in
+        let after = sink_view (O.given out.new) (O.faults out.new) (O.wants out.new) in
         (seen : List HeldFile) × (made : List Made) × Sees (F.held files.old) seen
         × JobEnds (is_run (job_of texts)) (IsFirstFault texts seen made) (target_of (job_of texts)) (IsRightOf (options_for texts) seen made) files_before files_after before after result
         × IfErr result (Cites (file_names texts seen) names.new)
@@ -57,8 +57,8 @@ fn perform_job<F: Files, O: Sink>(
     requires limits { IsWithinLimits options.now.job }
     ensures ends { let files_before = files_view (F.held files.old) (F.faults files.old) (F.write_faults files.old) in
         let files_after = files_view (F.held files.new) (F.faults files.new) (F.write_faults files.new) in
-        let before = sink_view (O.given out.old) (O.faults out.old) in
-        let after = sink_view (O.given out.new) (O.faults out.new) in
+        let before = sink_view (O.given out.old) (O.faults out.old) (O.wants out.old) in
+        let after = sink_view (O.given out.new) (O.faults out.new) (O.wants out.new) in
         (seen : List HeldFile) × (made : List Made) × Sees (F.held files.old) seen
         × JobEnds (is_run options.now.job) (IsJobFault options.now seen made) (target_of options.now.job) (IsRightOf options.now seen made) files_before files_after before after result
         × IfErr result (Cites (names_of options.now options.now.job seen) names.new)

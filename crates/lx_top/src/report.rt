@@ -16,7 +16,7 @@ use std::alloc::Global;
 /// changes nothing.
 pub fn report<E: Sink>(alloc: Global, names: &FileNames, halt: Halt, err: &mut E) -> Ending
     requires { IsPlacedHalt names.now halt }
-    ensures { Reports names.now (sink_view (E.given err.old) (E.faults err.old)) (sink_view (E.given err.new) (E.faults err.new)) halt result }
+    ensures { Reports names.now (sink_view (E.given err.old) (E.faults err.old) (E.wants err.old)) (sink_view (E.given err.new) (E.faults err.new) (E.wants err.new)) halt result }
 {
     match halt {
         Halt::Fault(fault) => tell_fault(alloc, names, &fault, err),
@@ -28,7 +28,7 @@ pub fn report<E: Sink>(alloc: Global, names: &FileNames, halt: Halt, err: &mut E
 
 fn tell_fault<E: Sink>(alloc: Global, names: &FileNames, fault: &Fault, err: &mut E) -> Ending
     requires { IsPlaced names.now fault.now }
-    ensures { TellsMessage (message_text names.now fault.now) (sink_view (E.given err.old) (E.faults err.old)) (sink_view (E.given err.new) (E.faults err.new)) result }
+    ensures { TellsMessage (message_text names.now fault.now) (sink_view (E.given err.old) (E.faults err.old) (E.wants err.old)) (sink_view (E.given err.new) (E.faults err.new) (E.wants err.new)) result }
 {
     match message(alloc, names, fault) {
         Ok(text) => tell_message(text.as_slice(), err),
@@ -37,7 +37,7 @@ fn tell_fault<E: Sink>(alloc: Global, names: &FileNames, fault: &Fault, err: &mu
 }
 
 fn tell_message<E: Sink>(text: &[u8], err: &mut E) -> Ending
-    ensures { TellsMessage text.now (sink_view (E.given err.old) (E.faults err.old)) (sink_view (E.given err.new) (E.faults err.new)) result }
+    ensures { TellsMessage text.now (sink_view (E.given err.old) (E.faults err.old) (E.wants err.old)) (sink_view (E.given err.new) (E.faults err.new) (E.wants err.new)) result }
 {
     match put_all(err, text) {
         Ok(()) => Ending::Refused,
@@ -49,7 +49,7 @@ fn tell_message<E: Sink>(text: &[u8], err: &mut E) -> Ending
 /// Tells at the standard error the text of an ending that is no refusal, if it can.
 pub(crate) fn tell_failure<E: Sink>(ending: Ending, err: &mut E) -> Ending
     ensures same { result ≡ ending }
-    ensures told { PutsText (failure_text ending) (sink_view (E.given err.old) (E.faults err.old)) (sink_view (E.given err.new) (E.faults err.new)) }
+    ensures told { PutsText (failure_text ending) (sink_view (E.given err.old) (E.faults err.old) (E.wants err.old)) (sink_view (E.given err.new) (E.faults err.new) (E.wants err.new)) }
     ensures never_falls { E.faults err.old ≤ E.faults err.new }
 {
     let _ = put_all(err, failure_text(ending));

@@ -32,10 +32,10 @@ pub fn answer<F: Files, O: Sink, E: Sink>(
 ) -> u8
     ensures answers { let files_before = files_view (F.held files.old) (F.faults files.old) (F.write_faults files.old) in
         let files_after = files_view (F.held files.new) (F.faults files.new) (F.write_faults files.new) in
-        let out_before = sink_view (O.given out.old) (O.faults out.old) in
-        let out_after = sink_view (O.given out.new) (O.faults out.new) in
-        let err_before = sink_view (E.given err.old) (E.faults err.old) in
-        let err_after = sink_view (E.given err.new) (E.faults err.new) in
+        let out_before = sink_view (O.given out.old) (O.faults out.old) (O.wants out.old) in
+        let out_after = sink_view (O.given out.new) (O.faults out.new) (O.wants out.new) in
+        let err_before = sink_view (E.given err.old) (E.faults err.old) (E.wants err.old) in
+        let err_after = sink_view (E.given err.new) (E.faults err.new) (E.wants err.new) in
         Answers words (outside files_before out_before err_before) (outside files_after out_after err_after) result }
 {
     match words {
@@ -46,9 +46,9 @@ pub fn answer<F: Files, O: Sink, E: Sink>(
 
 /// The exit status where the words could not be had: a word that is no UTF-8 is refused as a faulty command line.
 fn status_without_words<E: Sink>(alloc: Global, kind: ErrorKind, err: &mut E) -> u8
-    ensures no_text { kind ≡ ErrorKind.InvalidData → RefusesWords (sink_view (E.given err.old) (E.faults err.old)) (sink_view (E.given err.new) (E.faults err.new)) result }
-    ensures memory { kind ≡ ErrorKind.OutOfMemory → (result ≡ OUT_OF_MEMORY) × (sink_view (E.given err.new) (E.faults err.new) ≡ sink_view (E.given err.old) (E.faults err.old)) }
-    ensures other { kind ≢ ErrorKind.InvalidData → kind ≢ ErrorKind.OutOfMemory → (result ≡ NO_WORDS) × (sink_view (E.given err.new) (E.faults err.new) ≡ sink_view (E.given err.old) (E.faults err.old)) }
+    ensures no_text { kind ≡ ErrorKind.InvalidData → RefusesWords (sink_view (E.given err.old) (E.faults err.old) (E.wants err.old)) (sink_view (E.given err.new) (E.faults err.new) (E.wants err.new)) result }
+    ensures memory { kind ≡ ErrorKind.OutOfMemory → (result ≡ OUT_OF_MEMORY) × (sink_view (E.given err.new) (E.faults err.new) (E.wants err.new) ≡ sink_view (E.given err.old) (E.faults err.old) (E.wants err.old)) }
+    ensures other { kind ≢ ErrorKind.InvalidData → kind ≢ ErrorKind.OutOfMemory → (result ≡ NO_WORDS) × (sink_view (E.given err.new) (E.faults err.new) (E.wants err.new) ≡ sink_view (E.given err.old) (E.faults err.old) (E.wants err.old)) }
 {
     match kind {
         ErrorKind::InvalidData => refuse_words(alloc, err),
@@ -71,10 +71,10 @@ pub fn re2c<F: Files, O: Sink, E: Sink>(
 ) -> u8
     ensures ends { let files_before = files_view (F.held files.old) (F.faults files.old) (F.write_faults files.old) in
         let files_after = files_view (F.held files.new) (F.faults files.new) (F.write_faults files.new) in
-        let out_before = sink_view (O.given out.old) (O.faults out.old) in
-        let out_after = sink_view (O.given out.new) (O.faults out.new) in
-        let err_before = sink_view (E.given err.old) (E.faults err.old) in
-        let err_after = sink_view (E.given err.new) (E.faults err.new) in
+        let out_before = sink_view (O.given out.old) (O.faults out.old) (O.wants out.old) in
+        let out_after = sink_view (O.given out.new) (O.faults out.new) (O.wants out.new) in
+        let err_before = sink_view (E.given err.old) (E.faults err.old) (E.wants err.old) in
+        let err_after = sink_view (E.given err.new) (E.faults err.new) (E.wants err.new) in
         Ends (map string_bytes words.now) (outside files_before out_before err_before) (outside files_after out_after err_after) result }
 {
     run(alloc, words, files, out, err).status()
@@ -84,7 +84,7 @@ pub fn re2c<F: Files, O: Sink, E: Sink>(
 ///
 /// The exit status is 1; or 3 where the put failed, or 4 where memory ran out on the way to say so.
 pub fn refuse_words<E: Sink>(alloc: Global, err: &mut E) -> u8
-    ensures refuses { RefusesWords (sink_view (E.given err.old) (E.faults err.old)) (sink_view (E.given err.new) (E.faults err.new)) result }
+    ensures refuses { RefusesWords (sink_view (E.given err.old) (E.faults err.old) (E.wants err.old)) (sink_view (E.given err.new) (E.faults err.new) (E.wants err.new)) result }
 {
     let names = FileNames::new(alloc);
     report(alloc, &names, Halt::Fault(Fault::Usage), err).status()
@@ -99,10 +99,10 @@ fn run<F: Files, O: Sink, E: Sink>(
 ) -> Ending
     ensures ends { let files_before = files_view (F.held files.old) (F.faults files.old) (F.write_faults files.old) in
         let files_after = files_view (F.held files.new) (F.faults files.new) (F.write_faults files.new) in
-        let out_before = sink_view (O.given out.old) (O.faults out.old) in
-        let out_after = sink_view (O.given out.new) (O.faults out.new) in
-        let err_before = sink_view (E.given err.old) (E.faults err.old) in
-        let err_after = sink_view (E.given err.new) (E.faults err.new) in
+        let out_before = sink_view (O.given out.old) (O.faults out.old) (O.wants out.old) in
+        let out_after = sink_view (O.given out.new) (O.faults out.new) (O.wants out.new) in
+        let err_before = sink_view (E.given err.old) (E.faults err.old) (E.wants err.old) in
+        let err_after = sink_view (E.given err.new) (E.faults err.new) (E.wants err.new) in
         EndsSo (map string_bytes words.now) (outside files_before out_before err_before) (outside files_after out_after err_after) result }
 {
     let mut names = FileNames::new(alloc);

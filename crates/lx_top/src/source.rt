@@ -129,8 +129,8 @@ pub(crate) fn run_source<F: Files, O: Sink>(
     requires few { rules ≤ 200 }
     ensures ends { let files_before = files_view (F.held files.old) (F.faults files.old) (F.write_faults files.old) in
         let files_after = files_view (F.held files.new) (F.faults files.new) (F.write_faults files.new) in
-        let before = sink_view (O.given out.old) (O.faults out.old) in
-        let after = sink_view (O.given out.new) (O.faults out.new) in
+        let before = sink_view (O.given out.old) (O.faults out.old) (O.wants out.old) in
+        let after = sink_view (O.given out.new) (O.faults out.new) (O.wants out.new) in
         (made : List Made)
         × JobEnds false (λ fault. fault ≡ None) (Some target.now) (λ bytes text. IsSourceOutput rules made bytes × IsSourceText rules bytes text) files_before files_after before after result }
 {

@@ -25,6 +25,7 @@ fn put_lines<E: Sink>(
     ensures front { OnErr result (GivesFront (E.given err.old) (E.given err.new) (warning_lines names.now warnings.now)) }
     ensures some { OnErr result (warning_lines names.now warnings.now ≢ []) }
     ensures never_falls { E.faults err.old ≤ E.faults err.new }
+    ensures wants_never_fall { E.wants err.old ≤ E.wants err.new }
 {
     for warning in warnings {
         let line = warning_line(alloc, names, warning)?;
@@ -40,7 +41,7 @@ pub(crate) fn tell_warnings<E: Sink>(
     warnings: &[PlacedWarning],
     err: &mut E,
 ) -> Ending
-    ensures { TellsLines (warning_lines names.now warnings.now) (sink_view (E.given err.old) (E.faults err.old)) (sink_view (E.given err.new) (E.faults err.new)) result }
+    ensures { TellsLines (warning_lines names.now warnings.now) (sink_view (E.given err.old) (E.faults err.old) (E.wants err.old)) (sink_view (E.given err.new) (E.faults err.new) (E.wants err.new)) result }
 {
     match put_lines(alloc, names, warnings, err) {
         Ok(()) => Ending::Done,

@@ -9,6 +9,6 @@ returns-in-Ok g c = rw c.in-Ok.ensures at (rw c.as_slice.ensures at c.tell_messa
 
 pub returns-in-Err : goal.returns-in-Err
 returns-in-Err g c =
-    let err = sink_view (g.E.Sink.given c.args.err.now) (g.E.Sink.faults c.args.err.now) in
+    let err = sink_view (g.E.Sink.given c.args.err.now) (g.E.Sink.faults c.args.err.now) (g.E.Sink.wants c.args.err.now) in
     TellsMessage-out_of_memory (message_text c.args.names.now c.args.fault.now) err err _ c.tell_failure.result c.tell_failure.ensures.same
-    (omega arith) (GivesFront-none err.given _) c.tell_failure.ensures.told
+    (omega arith) (omega arith) (GivesFront-none err.given _) c.tell_failure.ensures.told

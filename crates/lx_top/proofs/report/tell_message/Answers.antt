@@ -6,11 +6,13 @@ use Rattle.lx_top.proofs.report.tell_message.Goals as goal
 pub returns-in-Err-Failed : goal.returns-in-Err-Failed
 returns-in-Err-Failed g c =
     let risen : g.E.Sink.faults c.args.err.now ≤ g.E.Sink.faults c.put_all.new.out = omega arith in
-    TellsMessage-failed c.args.text.now _ (sink_view (g.E.Sink.given c.put_all.new.out) (g.E.Sink.faults c.put_all.new.out)) _ c.tell_failure.result c.tell_failure.ensures.same
-    (rw c.in-Err-Failed.field-0-is at c.in-Err-Failed.ensures.refuses) risen c.tell_failure.ensures.never_falls c.in-Err-Failed.ensures.front c.tell_failure.ensures.told
+    let more : g.E.Sink.wants c.args.err.now ≤ g.E.Sink.wants c.put_all.new.out = omega arith in
+    TellsMessage-failed c.args.text.now _ (sink_view (g.E.Sink.given c.put_all.new.out) (g.E.Sink.faults c.put_all.new.out) (g.E.Sink.wants c.put_all.new.out)) _ c.tell_failure.result c.tell_failure.ensures.same
+    (rw c.in-Err-Failed.field-0-is at c.in-Err-Failed.ensures.refuses) risen more c.tell_failure.ensures.never_falls c.in-Err-Failed.ensures.front c.tell_failure.ensures.told
 
 pub returns-in-Err-Memory : goal.returns-in-Err-Memory
 returns-in-Err-Memory g c =
     let risen : g.E.Sink.faults c.args.err.now ≤ g.E.Sink.faults c.put_all.new.out = omega arith in
-    TellsMessage-out_of_memory c.args.text.now _ (sink_view (g.E.Sink.given c.put_all.new.out) (g.E.Sink.faults c.put_all.new.out)) _ c.tell_failure-in-Err-Memory.result
-    c.tell_failure-in-Err-Memory.ensures.same risen c.in-Err-Memory.ensures.front c.tell_failure-in-Err-Memory.ensures.told
+    let more : g.E.Sink.wants c.args.err.now ≤ g.E.Sink.wants c.put_all.new.out = omega arith in
+    TellsMessage-out_of_memory c.args.text.now _ (sink_view (g.E.Sink.given c.put_all.new.out) (g.E.Sink.faults c.put_all.new.out) (g.E.Sink.wants c.put_all.new.out)) _ c.tell_failure-in-Err-Memory.result
+    c.tell_failure-in-Err-Memory.ensures.same risen more c.in-Err-Memory.ensures.front c.tell_failure-in-Err-Memory.ensures.told

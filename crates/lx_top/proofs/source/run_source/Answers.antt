@@ -8,13 +8,13 @@ use Rattle.lx_top.proofs.source.run_source.Goals as goal
 pub returns-in_err-source : goal.returns-in_err-source
 returns-in_err-source g c =
     let files : FilesView = files_view (g.F.Files.held c.args.files.now) (g.F.Files.faults c.args.files.now) (g.F.Files.write_faults c.args.files.now) in
-    let out : SinkView = sink_view (g.O.Sink.given c.args.out.now) (g.O.Sink.faults c.args.out.now) in
+    let out : SinkView = sink_view (g.O.Sink.given c.args.out.now) (g.O.Sink.faults c.args.out.now) (g.O.Sink.wants c.args.out.now) in
     record { ends = EndsSource-memory c.args.rules c.args.target.now files out c.from_residual.result c.from_residual.ensures.1 }
 
 pub returns-in_err-output : goal.returns-in_err-output
 returns-in_err-output g c =
     let files : FilesView = files_view (g.F.Files.held c.args.files.now) (g.F.Files.faults c.args.files.now) (g.F.Files.write_faults c.args.files.now) in
-    let out : SinkView = sink_view (g.O.Sink.given c.args.out.now) (g.O.Sink.faults c.args.out.now) in
+    let out : SinkView = sink_view (g.O.Sink.given c.args.out.now) (g.O.Sink.faults c.args.out.now) (g.O.Sink.wants c.args.out.now) in
     let compiled = c.in_err-output.ensures.compiles c.args.rules c.requires.few (c.deref.ensures.value ∙ c.in_ok-source.ensures) in
     record {
       ends = EndsSource-halted c.args.rules c.args.target.now files out c.from_residual-in_err-output.result c.in_err-output.field-0.0
@@ -24,7 +24,7 @@ returns-in_err-output g c =
 pub returns-in_err-piece : goal.returns-in_err-piece
 returns-in_err-piece g c =
     let files : FilesView = files_view (g.F.Files.held c.args.files.now) (g.F.Files.faults c.args.files.now) (g.F.Files.write_faults c.args.files.now) in
-    let out : SinkView = sink_view (g.O.Sink.given c.args.out.now) (g.O.Sink.faults c.args.out.now) in
+    let out : SinkView = sink_view (g.O.Sink.given c.args.out.now) (g.O.Sink.faults c.args.out.now) (g.O.Sink.wants c.args.out.now) in
     let compiled = c.in_ok-output.ensures.compiles c.args.rules c.requires.few (c.deref.ensures.value ∙ c.in_ok-source.ensures) in
     let right = subst (λ (output : List ℕ). IsSourceOutput c.args.rules compiled.0 output) (sym c.deref-2.ensures.value) compiled.1 in
     record {
@@ -41,7 +41,7 @@ run_of-requires-clause-whole g c =
 pub returns-in_err-words : goal.returns-in_err-words
 returns-in_err-words g c =
     let files : FilesView = files_view (g.F.Files.held c.args.files.now) (g.F.Files.faults c.args.files.now) (g.F.Files.write_faults c.args.files.now) in
-    let out : SinkView = sink_view (g.O.Sink.given c.args.out.now) (g.O.Sink.faults c.args.out.now) in
+    let out : SinkView = sink_view (g.O.Sink.given c.args.out.now) (g.O.Sink.faults c.args.out.now) (g.O.Sink.wants c.args.out.now) in
     record {
       ends = EndsSource-memory c.args.rules c.args.target.now files out c.from_residual-in_err-words.result c.from_residual-in_err-words.ensures.1;
     }
@@ -49,7 +49,7 @@ returns-in_err-words g c =
 pub returns-in_err-run : goal.returns-in_err-run
 returns-in_err-run g c =
     let files : FilesView = files_view (g.F.Files.held c.args.files.now) (g.F.Files.faults c.args.files.now) (g.F.Files.write_faults c.args.files.now) in
-    let out : SinkView = sink_view (g.O.Sink.given c.args.out.now) (g.O.Sink.faults c.args.out.now) in
+    let out : SinkView = sink_view (g.O.Sink.given c.args.out.now) (g.O.Sink.faults c.args.out.now) (g.O.Sink.wants c.args.out.now) in
     record {
       ends = EndsSource-memory c.args.rules c.args.target.now files out c.from_residual-in_err-run.result c.from_residual-in_err-run.ensures.1;
     }
@@ -57,7 +57,7 @@ returns-in_err-run g c =
 pub returns-in_err-text : goal.returns-in_err-text
 returns-in_err-text g c =
     let files : FilesView = files_view (g.F.Files.held c.args.files.now) (g.F.Files.faults c.args.files.now) (g.F.Files.write_faults c.args.files.now) in
-    let out : SinkView = sink_view (g.O.Sink.given c.args.out.now) (g.O.Sink.faults c.args.out.now) in
+    let out : SinkView = sink_view (g.O.Sink.given c.args.out.now) (g.O.Sink.faults c.args.out.now) (g.O.Sink.wants c.args.out.now) in
     record {
       ends = EndsSource-memory c.args.rules c.args.target.now files out c.from_residual-in_err-text.result c.from_residual-in_err-text.ensures.1;
     }
