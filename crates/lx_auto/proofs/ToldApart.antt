@@ -9,10 +9,10 @@ use Rattle.lx_auto.specs.Automaton.{edge_on, state_of}
 use Rattle.lx_auto.specs.ToldApart.{AcceptTheSame, AreToldApart, DoTheSame, MoveTheSame, by_accepts, by_moves, further_on}
 
 pub DoTheSame-itself : (ops : List Op) → DoTheSame ops ops
-DoTheSame-itself ops = record { effects = λ held. refl; written = λ held writes. writes; back = λ held writes. writes }
+DoTheSame-itself ops = λ held. refl
 
 pub DoTheSame-turned : (ops others : List Op) → DoTheSame ops others → DoTheSame others ops
-DoTheSame-turned ops others same = record { effects = λ held. sym (same.effects held); written = same.back; back = same.written }
+DoTheSame-turned ops others same = λ held. sym (same held)
 
 pub AcceptTheSame-itself : (accept : Option Accept) → AcceptTheSame accept accept
 AcceptTheSame-itself None = tt

@@ -1,5 +1,5 @@
 -- What a list of operations that acts at once does to one register, whatever registers hold, and other names for registers.
-use Rattle.std.specs.Prelude.{◌≡◌, ℕ, List, [], ◌∷◌, ◌++◌, map, Option, Some, None, Bool, true, false, nat_eq, if◌then◌else◌, Contains}
+use Rattle.std.specs.Prelude.{◌≡◌, ◌≢◌, ℕ, List, [], ◌∷◌, ◌++◌, map, Option, Some, None, Bool, true, false, nat_eq, if◌then◌else◌, Contains}
 use Rattle.std.specs.List.{list_any}
 use Rattle.lx_auto.specs.declared.automaton.Held.{Held}
 use Rattle.lx_auto.specs.declared.automaton.Held.TheVariants.{Reg, MReg}
@@ -100,6 +100,17 @@ target_of (MCopy target source) = MReg target
 -- some operation of the list writes it, be it that it copies it to itself
 abbrev pub Writes : List Op → Held → Type 0
 Writes ops held = (op : Op) × Contains ops op × (target_of op ≡ held)
+
+-- The list leaves in it something else than what it held: what the list does is not what no operation does. A copy of a register to
+-- itself writes it, and alters nothing.
+abbrev pub Alters : List Op → Held → Type 0
+Alters ops held = effect_of ops held ≢ effect_of [] held
+
+-- an operation that copies a register, or an m-register, to itself
+abbrev pub copies_itself : Op → Bool
+copies_itself (Copy target source) = nat_eq target source
+copies_itself (MCopy target source) = nat_eq target source
+copies_itself _ = false
 
 -- an operation that gives the register the offset, nothing, or what a register held
 abbrev pub sets : (reg : ℕ) → Op → Bool

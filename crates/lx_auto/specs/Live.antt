@@ -7,7 +7,7 @@ use Rattle.lx_auto.specs.declared.automaton.Held.{Held}
 use Rattle.lx_auto.specs.declared.automaton.Held.TheVariants.{Reg, MReg}
 use Rattle.lx_auto.specs.declared.ops.Op.{Op}
 use Rattle.lx_auto.specs.Automaton.{state_of}
-use Rattle.lx_auto.specs.Effects.{Reads, Writes, effect_of, effect_of_both, is_overwritten, target_of}
+use Rattle.lx_auto.specs.Effects.{Alters, Reads, effect_of, effect_of_both, is_overwritten, target_of}
 use Rattle.lx_auto.specs.Points.{Point, IsReached, point_behind, state_at, values_left}
 
 -- Some walk from the point reads this before it is written: for a value of what the state accepts; where the state does not accept,
@@ -62,18 +62,18 @@ module _ (auto : Auto) where
     pub accepts : (state : ℕ) (accept : Accept) → (state_of auto.states state).accept ≡ Some accept
         → EachIsWanted (λ held. AtSomePoint state (λ point. Contains accept.values held)) accept.ops
 
--- at a point that some walk comes to a list writes the first, and the other is live behind the list
-pub data IsWrittenBeside (auto : Auto) (held other : Held) : Type 0 where
-  on_leaving : (point : Point) → IsReached auto point → Writes (state_at auto point).leave held → IsLiveOnLeaving auto point other
-      → IsWrittenBeside auto held other
-  on_edge : (point : Point) (edge : Edge) → IsReached auto point → Contains (state_at auto point).edges edge → Writes edge.ops held
-      → IsLiveBehind auto point edge other → IsWrittenBeside auto held other
+-- at a point that some walk comes to a list alters the first, and the other is live behind the list
+pub data IsAlteredBeside (auto : Auto) (held other : Held) : Type 0 where
+  on_leaving : (point : Point) → IsReached auto point → Alters (state_at auto point).leave held → IsLiveOnLeaving auto point other
+      → IsAlteredBeside auto held other
+  on_edge : (point : Point) (edge : Edge) → IsReached auto point → Contains (state_at auto point).edges edge → Alters edge.ops held
+      → IsLiveBehind auto point edge other → IsAlteredBeside auto held other
   on_accept : (point : Point) (accept : Accept) → IsReached auto point → (state_at auto point).accept ≡ Some accept
-      → Writes accept.ops held → Contains accept.values other → IsWrittenBeside auto held other
+      → Alters accept.ops held → Contains accept.values other → IsAlteredBeside auto held other
 
--- a list writes one of the two, and the other is live behind it
+-- a list alters one of the two, and the other is live behind it
 abbrev pub Interfere : Auto → (held other : Held) → Type 0
-Interfere auto held other = IsWrittenBeside auto held other ⊎ IsWrittenBeside auto other held
+Interfere auto held other = IsAlteredBeside auto held other ⊎ IsAlteredBeside auto other held
 
 -- any two registers interfere, and so do any two m-registers, m-register 0 aside
 pub record AllInterfere (auto : Auto) : Type 0 where

@@ -7,13 +7,11 @@ use Rattle.lx_auto.specs.declared.automaton.Held.{Held}
 use Rattle.lx_auto.specs.declared.automaton.State.{State}
 use Rattle.lx_auto.specs.declared.ops.Op.{Op}
 use Rattle.lx_auto.specs.Automaton.{edge_on, state_of}
-use Rattle.lx_auto.specs.Effects.{Writes, effect_of}
+use Rattle.lx_auto.specs.Effects.{effect_of}
 
--- both lists write the same registers, and give each the same
-pub record DoTheSame (ops others : List Op) : Type 0 where
-  pub effects : (held : Held) → effect_of ops held ≡ effect_of others held
-  pub written : (held : Held) → Writes ops held → Writes others held
-  pub back : (held : Held) → Writes others held → Writes ops held
+-- behind both lists each register holds the same, whatever they write on the way
+abbrev pub DoTheSame : (ops others : List Op) → Type 0
+DoTheSame ops others = (held : Held) → effect_of ops held ≡ effect_of others held
 
 -- neither state accepts, or both do by one rule, with values in the same registers, which get the same
 abbrev pub AcceptTheSame : Option Accept → Option Accept → Type 0

@@ -1,19 +1,19 @@
 -- The canonical list of a list does the same, and lists that do the same have one.
-use Rattle.std.proofs.Common.{◌≡◌, ℕ, List, [], ◌∷◌, ◌++◌, Bool, true, false, if◌then◌else◌, nat_eq, refl, sym, ap, ap₂, ◌∙◌, subst, inl, inr, arith, append-nil}
+use Rattle.std.proofs.Common.{◌≡◌, ℕ, List, [], ◌∷◌, ◌++◌, Bool, true, false, if◌then◌else◌, nat_eq, refl, sym, ap, ap₂, ◌∙◌, subst, inl, inr, arith, append-nil, eqb-true}
 use Rattle.std.specs.Prelude.{◌⊎◌, ◌↔◌, Contains, map}
 use Rattle.std.specs.List.{flat_map}
 use Rattle.std.proofs.lemmas.Bool.{eq-eqb}
-use Rattle.std.proofs.lemmas.List.Elements.{Contains-append_cases, Contains-append_left, Contains-append_right}
+use Rattle.std.proofs.lemmas.List.Elements.{Contains-append_cases}
 use Rattle.lx_auto.specs.declared.automaton.Held.{Held}
 use Rattle.lx_auto.specs.declared.automaton.Held.TheVariants.{Reg, MReg}
 use Rattle.lx_auto.specs.declared.ops.Op.{Op}
 use Rattle.lx_auto.specs.declared.ops.Op.TheVariants.{Here, Null, Copy, MHere, MNull, MCopy}
-use Rattle.lx_auto.specs.Effects.{Effect, here, nothing, held_by, history_of, Writes, effect_after, effect_behind, effect_of, marks_by, origin_after, target_of}
+use Rattle.lx_auto.specs.Effects.{Effect, here, nothing, held_by, history_of, Writes, copies_itself, effect_after, effect_behind, effect_of, marks_by, origin_after, target_of}
 use Rattle.lx_auto.specs.ToldApart.{DoTheSame}
 use Rattle.lx_auto.proofs.EffectLists.{WritesNot, effect_after-append, effect_after-unwritten, effect_of-unwritten, marks_by-append, marks_by-unwritten, origin_after-append, origin_after-unwritten}
-use Rattle.lx_auto.proofs.ToldApart.{DoTheSame-turned}
-use Rattle.lx_min.specs.Canonical.{canonical, comes_before, marking, op_with, ops_on, targets_of}
-use Rattle.lx_min.proofs.Targets.{AreAscending, AreAscending-targets_of, Has, Has-targets_of, Writes-cases, Writes-first, ascending-same, comes_before-itself, has_or_not, targets_of-Has}
+use Rattle.lx_min.specs.Canonical.{canonical, comes_before, marking, op_with, ops_on, targets_of, unless_itself}
+use Rattle.lx_min.proofs.ActingTargets.{AreAscending-acting, Has-acting, acting, acting-acts, flat_map-acting}
+use Rattle.lx_min.proofs.Targets.{AreAscending, AreAscending-targets_of, Has, Writes-cases, ascending-same, comes_before-itself, has_or_not, targets_of-Has}
 
 -- ---- what is done to one target
 
@@ -45,11 +45,32 @@ IsOnRegister-after (op ∷ ops) reg effect is = IsOnRegister-after ops reg (effe
 itself : {X : Type 0} (n : ℕ) (x y : X) → (if nat_eq n n then x else y) ≡ x
 itself n x y = ap (λ b. if b then x else y) (eq-eqb n n refl)
 
-effect_behind-op_with : (reg : ℕ) (effect before : Effect) → IsOnRegister effect → effect_behind (op_with reg effect) reg before ≡ effect
-effect_behind-op_with reg here before is = itself reg here before
-effect_behind-op_with reg nothing before is = itself reg nothing before
-effect_behind-op_with reg (held_by source) before is = itself reg (held_by source) before
-effect_behind-op_with reg (history_of origin marks) before is = absurd is
+-- what a register held is what the operation reads, where it copies that to itself
+effect_after-op_with : (reg : ℕ) (effect : Effect) → IsOnRegister effect
+    → effect_after (unless_itself (op_with reg effect)) reg (held_by reg) ≡ effect
+effect_after-op_with reg here is = itself reg here (held_by reg)
+effect_after-op_with reg nothing is = itself reg nothing (held_by reg)
+effect_after-op_with reg (history_of origin marks) is = absurd is
+effect_after-op_with reg (held_by source) is = by (nat_eq reg source) refl
+  where
+    by : (b : Bool) → nat_eq reg source ≡ b
+        → effect_after (if b then [] else Copy reg source ∷ []) reg (held_by reg) ≡ held_by source
+    by true same = ap held_by (eqb-true reg source same)
+    by false other = itself reg (held_by source) (held_by reg)
+
+origin_after-copy : (mreg source : ℕ) → origin_after (unless_itself (MCopy mreg source)) mreg mreg ≡ source
+origin_after-copy mreg source = by (nat_eq mreg source) refl
+  where
+    by : (b : Bool) → nat_eq mreg source ≡ b → origin_after (if b then [] else MCopy mreg source ∷ []) mreg mreg ≡ source
+    by true same = eqb-true mreg source same
+    by false other = itself mreg source mreg
+
+marks_by-copy : (mreg source : ℕ) → marks_by (unless_itself (MCopy mreg source)) mreg ≡ []
+marks_by-copy mreg source = by (nat_eq mreg source)
+  where
+    by : (b : Bool) → marks_by (if b then [] else MCopy mreg source ∷ []) mreg ≡ []
+    by true = refl
+    by false = refl
 
 origin_after-marking : (marks : List Bool) (mreg origin : ℕ) → origin_after (map (marking mreg) marks) mreg origin ≡ origin
 origin_after-marking [] mreg origin = refl
@@ -69,6 +90,16 @@ target_of-op_with reg nothing = refl
 target_of-op_with reg (held_by source) = refl
 target_of-op_with reg (history_of origin marks) = refl
 
+Writes-none : (held : Held) → Writes [] held → ⊥
+Writes-none held (op, (place, within, is), target) = omega arith
+
+Writes-unless_itself : (op : Op) (held : Held) → Writes (unless_itself op) held → target_of op ≡ held
+Writes-unless_itself op held writes = by (copies_itself op) writes
+  where
+    by : (b : Bool) → Writes (if b then [] else op ∷ []) held → target_of op ≡ held
+    by true writes = absurd (Writes-none held writes)
+    by false writes = elim (Writes-cases op [] held writes) [ inl is ↦ is | inr none ↦ absurd (Writes-none held none) ]
+
 Writes-marking : (marks : List Bool) (mreg : ℕ) (held : Held) → Writes (map (marking mreg) marks) held → MReg mreg ≡ held
 Writes-marking [] mreg held (op, (place, within, is), target) = absurd (omega arith)
 Writes-marking (true ∷ marks) mreg held writes =
@@ -80,23 +111,15 @@ Writes-marking (false ∷ marks) mreg held writes =
 
 module _ (ops : List Op) where
   Writes-ops_on : (target held : Held) → Writes (ops_on ops target) held → target ≡ held
-  Writes-ops_on (Reg reg) held writes = by (Writes-cases (op_with reg (effect_of ops (Reg reg))) [] held writes)
-    where
-      by : (target_of (op_with reg (effect_of ops (Reg reg))) ≡ held) ⊎ Writes [] held → Reg reg ≡ held
-      by (inl is) = sym (target_of-op_with reg (effect_of ops (Reg reg))) ∙ is
-      by (inr (op, (place, within, is), target)) = absurd (omega arith)
-  Writes-ops_on (MReg mreg) held writes =
-      by (Writes-cases (MCopy mreg (origin_after ops mreg mreg)) (map (marking mreg) (marks_by ops mreg)) held writes)
-    where
-      by : (MReg mreg ≡ held) ⊎ Writes (map (marking mreg) (marks_by ops mreg)) held → MReg mreg ≡ held
-      by (inl is) = is
-      by (inr later) = Writes-marking (marks_by ops mreg) mreg held later
-
-  ops_on-Writes : (target : Held) → Writes (ops_on ops target) target
-  ops_on-Writes (Reg reg) =
-      Writes-first (op_with reg (effect_of ops (Reg reg))) [] (Reg reg) (target_of-op_with reg (effect_of ops (Reg reg)))
-  ops_on-Writes (MReg mreg) =
-      Writes-first (MCopy mreg (origin_after ops mreg mreg)) (map (marking mreg) (marks_by ops mreg)) (MReg mreg) refl
+  Writes-ops_on (Reg reg) held writes =
+      sym (target_of-op_with reg (effect_of ops (Reg reg))) ∙ Writes-unless_itself (op_with reg (effect_of ops (Reg reg))) held writes
+  Writes-ops_on (MReg mreg) held (op, contains, is) =
+      let copy = unless_itself (MCopy mreg (origin_after ops mreg mreg)) in
+      let marks = map (marking mreg) (marks_by ops mreg) in
+      elim (Contains-append_cases copy marks op contains) [
+        | inl front ↦ Writes-unless_itself (MCopy mreg (origin_after ops mreg mreg)) held (op, front, is)
+        | inr back ↦ Writes-marking (marks_by ops mreg) mreg held (op, back, is)
+      ]
 
   -- what the list does to each of some targets
   abbrev done_to : List Held → List Op
@@ -112,15 +135,6 @@ module _ (ops : List Op) where
       by later (inl front) = inl (Writes-ops_on target held (op, front, is))
       by later (inr back) = inr (later (op, back, is))
 
-  done_to-Writes : (targets : List Held) (held : Held) → Has targets held → Writes (done_to targets) held
-  done_to-Writes [] held has = absurd has
-  done_to-Writes (target ∷ targets) held (inl same) =
-      let writes = subst (Writes (ops_on ops target)) same (ops_on-Writes target) in
-      (writes.0, Contains-append_left (ops_on ops target) (done_to targets) writes.0 writes.1, writes.2)
-  done_to-Writes (target ∷ targets) held (inr there) =
-      let writes = done_to-Writes targets held there in
-      (writes.0, Contains-append_right (ops_on ops target) (done_to targets) writes.0 writes.1, writes.2)
-
   -- what comes behind the first target does not write it
   first-alone : (target : Held) (targets : List Held) (held : Held) → AreAscending (target ∷ targets) → target ≡ held
       → WritesNot (done_to targets) held
@@ -135,33 +149,47 @@ module _ (ops : List Op) where
 
   -- ---- effects
 
-  effect_after-done_to : (reg : ℕ) (targets : List Held) (effect : Effect) → AreAscending targets → Has targets (Reg reg)
-      → effect_after (done_to targets) reg effect ≡ effect_of ops (Reg reg)
-  effect_after-done_to reg [] effect are has = absurd has
-  effect_after-done_to reg (target ∷ targets) effect are (inl same) =
-      effect_after-append (ops_on ops target) (done_to targets) reg effect
+  effect_after-done_to : (reg : ℕ) (targets : List Held) → AreAscending targets → Has targets (Reg reg)
+      → effect_after (done_to targets) reg (held_by reg) ≡ effect_of ops (Reg reg)
+  effect_after-done_to reg [] are has = absurd has
+  effect_after-done_to reg (target ∷ targets) are (inl same) =
+      effect_after-append (ops_on ops target) (done_to targets) reg (held_by reg)
       ∙ ap (effect_after (done_to targets) reg)
-      (ap (λ t. effect_after (ops_on ops t) reg effect) same
-      ∙ effect_behind-op_with reg (effect_of ops (Reg reg)) effect (IsOnRegister-after ops reg (held_by reg) tt))
+      (ap (λ t. effect_after (ops_on ops t) reg (held_by reg)) same
+      ∙ effect_after-op_with reg (effect_of ops (Reg reg)) (IsOnRegister-after ops reg (held_by reg) tt))
       ∙ effect_after-unwritten (done_to targets) reg (effect_of ops (Reg reg)) (first-alone target targets (Reg reg) are same)
-  effect_after-done_to reg (target ∷ targets) effect are (inr has) =
-      effect_after-append (ops_on ops target) (done_to targets) reg effect
-      ∙ effect_after-done_to reg targets (effect_after (ops_on ops target) reg effect) are.1 has
+  effect_after-done_to reg (target ∷ targets) are (inr has) =
+      effect_after-append (ops_on ops target) (done_to targets) reg (held_by reg)
+      ∙ ap (effect_after (done_to targets) reg)
+      (effect_after-unwritten (ops_on ops target) reg (held_by reg) (first-other target targets (Reg reg) are has))
+      ∙ effect_after-done_to reg targets are.1 has
 
-  origin_after-done_to : (mreg : ℕ) (targets : List Held) (origin : ℕ) → AreAscending targets → Has targets (MReg mreg)
-      → origin_after (done_to targets) mreg origin ≡ origin_after ops mreg mreg
-  origin_after-done_to mreg [] origin are has = absurd has
-  origin_after-done_to mreg (target ∷ targets) origin are (inl same) =
+  -- what is done to an m-register itself
+  origin_after-ops_on : (mreg : ℕ) → origin_after (ops_on ops (MReg mreg)) mreg mreg ≡ origin_after ops mreg mreg
+  origin_after-ops_on mreg =
       let source = origin_after ops mreg mreg in
-      let marks = marks_by ops mreg in
-      origin_after-append (ops_on ops target) (done_to targets) mreg origin
+      origin_after-append (unless_itself (MCopy mreg source)) (map (marking mreg) (marks_by ops mreg)) mreg mreg
+      ∙ origin_after-marking (marks_by ops mreg) mreg (origin_after (unless_itself (MCopy mreg source)) mreg mreg)
+      ∙ origin_after-copy mreg source
+
+  marks_by-ops_on : (mreg : ℕ) → marks_by (ops_on ops (MReg mreg)) mreg ≡ marks_by ops mreg
+  marks_by-ops_on mreg =
+      let source = origin_after ops mreg mreg in
+      marks_by-append (unless_itself (MCopy mreg source)) (map (marking mreg) (marks_by ops mreg)) mreg
+      ∙ ap₂ (λ front back. front ++ back) (marks_by-copy mreg source) (marks_by-marking (marks_by ops mreg) mreg)
+
+  origin_after-done_to : (mreg : ℕ) (targets : List Held) → AreAscending targets → Has targets (MReg mreg)
+      → origin_after (done_to targets) mreg mreg ≡ origin_after ops mreg mreg
+  origin_after-done_to mreg [] are has = absurd has
+  origin_after-done_to mreg (target ∷ targets) are (inl same) =
+      origin_after-append (ops_on ops target) (done_to targets) mreg mreg
+      ∙ ap (origin_after (done_to targets) mreg) (ap (λ t. origin_after (ops_on ops t) mreg mreg) same ∙ origin_after-ops_on mreg)
+      ∙ origin_after-unwritten (done_to targets) mreg (origin_after ops mreg mreg) (first-alone target targets (MReg mreg) are same)
+  origin_after-done_to mreg (target ∷ targets) are (inr has) =
+      origin_after-append (ops_on ops target) (done_to targets) mreg mreg
       ∙ ap (origin_after (done_to targets) mreg)
-      (ap (λ t. origin_after (ops_on ops t) mreg origin) same
-      ∙ ap (origin_after (map (marking mreg) marks) mreg) (itself mreg source origin) ∙ origin_after-marking marks mreg source)
-      ∙ origin_after-unwritten (done_to targets) mreg source (first-alone target targets (MReg mreg) are same)
-  origin_after-done_to mreg (target ∷ targets) origin are (inr has) =
-      origin_after-append (ops_on ops target) (done_to targets) mreg origin
-      ∙ origin_after-done_to mreg targets (origin_after (ops_on ops target) mreg origin) are.1 has
+      (origin_after-unwritten (ops_on ops target) mreg mreg (first-other target targets (MReg mreg) are has))
+      ∙ origin_after-done_to mreg targets are.1 has
 
   marks_by-done_to : (mreg : ℕ) (targets : List Held) → AreAscending targets → Has targets (MReg mreg)
       → marks_by (done_to targets) mreg ≡ marks_by ops mreg
@@ -169,7 +197,7 @@ module _ (ops : List Op) where
   marks_by-done_to mreg (target ∷ targets) are (inl same) =
       marks_by-append (ops_on ops target) (done_to targets) mreg
       ∙ ap₂ (λ front back. front ++ back)
-      (ap (λ t. marks_by (ops_on ops t) mreg) same ∙ marks_by-marking (marks_by ops mreg) mreg)
+      (ap (λ t. marks_by (ops_on ops t) mreg) same ∙ marks_by-ops_on mreg)
       (marks_by-unwritten (done_to targets) mreg (first-alone target targets (MReg mreg) are same))
       ∙ append-nil (marks_by ops mreg)
   marks_by-done_to mreg (target ∷ targets) are (inr has) =
@@ -179,9 +207,9 @@ module _ (ops : List Op) where
 
   effect_of-done_to : (held : Held) (targets : List Held) → AreAscending targets → Has targets held
       → effect_of (done_to targets) held ≡ effect_of ops held
-  effect_of-done_to (Reg reg) targets are has = effect_after-done_to reg targets (held_by reg) are has
+  effect_of-done_to (Reg reg) targets are has = effect_after-done_to reg targets are has
   effect_of-done_to (MReg mreg) targets are has =
-      ap₂ history_of (origin_after-done_to mreg targets mreg are has) (marks_by-done_to mreg targets are has)
+      ap₂ history_of (origin_after-done_to mreg targets are has) (marks_by-done_to mreg targets are has)
 
   effect_of-canonical : (held : Held) → effect_of (canonical ops) held ≡ effect_of ops held
   effect_of-canonical held = by (has_or_not (targets_of ops) held)
@@ -193,41 +221,57 @@ module _ (ops : List Op) where
           ∙ sym (effect_of-unwritten ops held (λ writes. none (targets_of-Has ops held writes)))
 
   pub DoTheSame-canonical : DoTheSame (canonical ops) ops
-  DoTheSame-canonical = record {
-    effects = effect_of-canonical;
-    written = λ held writes. Has-targets_of ops held (Writes-done_to (targets_of ops) held writes);
-    back = λ held writes. done_to-Writes (targets_of ops) held (targets_of-Has ops held writes);
-  }
+  DoTheSame-canonical = effect_of-canonical
+
+  -- what is not written has nothing done to it
+  ops_on-unwritten : (held : Held) → effect_of ops held ≡ effect_of [] held → ops_on ops held ≡ []
+  ops_on-unwritten (Reg reg) same =
+      ap (λ effect. unless_itself (op_with reg effect)) same ∙ ap (λ b. if b then [] else Copy reg reg ∷ []) (eq-eqb reg reg refl)
+  ops_on-unwritten (MReg mreg) same =
+      let origin : origin_after ops mreg mreg ≡ mreg = cc same in
+      let marks : marks_by ops mreg ≡ [] = cc same in
+      ap₂ (λ source list. unless_itself (MCopy mreg source) ++ map (marking mreg) list) origin marks
+      ∙ ap (λ b. (if b then [] else MCopy mreg mreg ∷ []) ++ []) (eq-eqb mreg mreg refl)
+
+  -- so something is done only to what is written
+  acts-Has : (held : Held) → (ops_on ops held ≡ [] → ⊥) → Has (targets_of ops) held
+  acts-Has held acts = elim (has_or_not (targets_of ops) held) [
+    | inl has ↦ has
+    | inr none ↦
+        absurd (acts (ops_on-unwritten held (effect_of-unwritten ops held (λ writes. none (targets_of-Has ops held writes)))))
+  ]
 
 -- ---- two lists
 
-DoTheSame-through : (ops middle others : List Op) → DoTheSame ops middle → DoTheSame middle others → DoTheSame ops others
-DoTheSame-through ops middle others first second = record {
-  effects = λ held. first.effects held ∙ second.effects held;
-  written = λ held writes. second.written held (first.written held writes);
-  back = λ held writes. first.back held (second.back held writes);
-}
-
 module _ (ops others : List Op) where
   canonical-DoTheSame : canonical ops ≡ canonical others → DoTheSame ops others
-  canonical-DoTheSame same =
-      DoTheSame-through ops (canonical ops) others (DoTheSame-turned (canonical ops) ops (DoTheSame-canonical ops))
-      (subst (λ list. DoTheSame list others) (sym same) (DoTheSame-canonical others))
+  canonical-DoTheSame same = λ held.
+      sym (effect_of-canonical ops held) ∙ ap (λ list. effect_of list held) same ∙ effect_of-canonical others held
 
   ops_on-same : (held : Held) → effect_of ops held ≡ effect_of others held → ops_on ops held ≡ ops_on others held
-  ops_on-same (Reg reg) same = ap (λ effect. op_with reg effect ∷ []) same
+  ops_on-same (Reg reg) same = ap (λ effect. unless_itself (op_with reg effect)) same
   ops_on-same (MReg mreg) same =
       let origin : origin_after ops mreg mreg ≡ origin_after others mreg mreg = cc same in
       let marks : marks_by ops mreg ≡ marks_by others mreg = cc same in
-      ap₂ (λ source list. MCopy mreg source ∷ map (marking mreg) list) origin marks
+      ap₂ (λ source list. unless_itself (MCopy mreg source) ++ map (marking mreg) list) origin marks
 
   canonical-same : DoTheSame ops others → canonical ops ≡ canonical others
   canonical-same same =
-      let targets : targets_of ops ≡ targets_of others =
-      ascending-same (targets_of ops) (targets_of others) (AreAscending-targets_of ops) (AreAscending-targets_of others)
-      (λ held has. targets_of-Has others held (same.written held (Has-targets_of ops held has)))
-      (λ held has. targets_of-Has ops held (same.back held (Has-targets_of others held has))) in
-      λ i. flat_map (λ held. ops_on-same held (same.effects held) i) (targets i)
+      let alike : (held : Held) → ops_on ops held ≡ ops_on others held = λ held. ops_on-same held (same held) in
+      let targets : acting (ops_on ops) (targets_of ops) ≡ acting (ops_on others) (targets_of others) =
+      ascending-same (acting (ops_on ops) (targets_of ops)) (acting (ops_on others) (targets_of others))
+      (AreAscending-acting (ops_on ops) (targets_of ops) (AreAscending-targets_of ops))
+      (AreAscending-acting (ops_on others) (targets_of others) (AreAscending-targets_of others))
+      (λ held has.
+      let acts : ops_on others held ≡ [] → ⊥ = λ none. acting-acts (ops_on ops) (targets_of ops) held has (alike held ∙ none) in
+      Has-acting (ops_on others) (targets_of others) held (acts-Has others held acts) acts)
+      (λ held has.
+      let acts : ops_on ops held ≡ [] → ⊥ = λ none.
+      acting-acts (ops_on others) (targets_of others) held has (sym (alike held) ∙ none) in
+      Has-acting (ops_on ops) (targets_of ops) held (acts-Has ops held acts) acts) in
+      sym (flat_map-acting (ops_on ops) (targets_of ops))
+      ∙ (λ i. flat_map (λ held. alike held i) (targets i))
+      ∙ flat_map-acting (ops_on others) (targets_of others)
 
   pub canonical-is : (canonical ops ≡ canonical others) ↔ DoTheSame ops others
   canonical-is = (canonical-DoTheSame, canonical-same)

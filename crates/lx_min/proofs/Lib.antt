@@ -1,4 +1,5 @@
 pub mod AcceptNumbers
+pub mod ActingTargets
 pub mod ApartAlready
 pub mod CanonicalLists
 pub mod CanonicalSteps

@@ -10,12 +10,13 @@ use Rattle.lx_auto.specs.declared.automaton.Held.TheVariants.{Reg, MReg}
 use Rattle.lx_auto.specs.declared.automaton.State.{State}
 use Rattle.lx_auto.specs.declared.ops.Op.{Op}
 use Rattle.lx_auto.specs.Automaton.{IsAuto, state_of}
-use Rattle.lx_auto.specs.Effects.{Writes, target_of}
-use Rattle.lx_auto.specs.Live.{AllInterfere, AtSomePoint, EachIsWanted, EachTargetIsRead, Interfere, IsLiveBehind, IsLiveOnLeaving, IsWrittenBeside, on_accept, on_edge, on_leaving}
+use Rattle.lx_auto.specs.Effects.{Alters, target_of}
+use Rattle.lx_auto.specs.Live.{AllInterfere, AtSomePoint, EachIsWanted, EachTargetIsRead, Interfere, IsAlteredBeside, IsLiveBehind, IsLiveOnLeaving, on_accept, on_edge, on_leaving}
 use Rattle.lx_auto.specs.Points.{IsReached, Point, state_at}
 use Rattle.lx_auto.specs.ToldApart.{AcceptTheSame}
 use Rattle.lx_min.specs.Merges.{Classes, IsMerge}
 use Rattle.lx_min.proofs.MergedStates.{accept-unmoved, class-of_accept, class-of_edge, edge-unmoved}
+use Rattle.lx_min.proofs.SameEffects.{Alters-done}
 use Rattle.lx_min.proofs.Merges.{IsLiveBehind-merged, IsLiveOnLeaving-merged, IsReached-merged, accept-merged, edge-merged, image_of}
 
 -- each operation of a list writes what is wanted at some point to which a walk comes with the state
@@ -89,33 +90,33 @@ module _ (given answer : Auto) (classes : Classes) (is : IsMerge given answer cl
     EachTargetIsRead-merged = record { leaves = leaves-read; edges = edges-read; accepts = accepts-read }
 
   beside-on_accept : (point : Point) (held other : Held) (accept : Accept) (theirs ours : Option Accept) → IsReached given point
-      → theirs ≡ Some accept → (state_at answer (image point)).accept ≡ ours → AcceptTheSame theirs ours → Writes accept.ops held
-      → Contains accept.values other → IsWrittenBeside answer held other
-  beside-on_accept point held other accept None ours reached accepts others same writes has = absurd (cc accepts)
-  beside-on_accept point held other accept (Some theirs) None reached accepts others same writes has = absurd same
-  beside-on_accept point held other accept (Some theirs) (Some ours) reached accepts others same writes has =
+      → theirs ≡ Some accept → (state_at answer (image point)).accept ≡ ours → AcceptTheSame theirs ours → Alters accept.ops held
+      → Contains accept.values other → IsAlteredBeside answer held other
+  beside-on_accept point held other accept None ours reached accepts others same alters has = absurd (cc accepts)
+  beside-on_accept point held other accept (Some theirs) None reached accepts others same alters has = absurd same
+  beside-on_accept point held other accept (Some theirs) (Some ours) reached accepts others same alters has =
       let one : theirs ≡ accept = cc accepts in
       on_accept (image point) ours (IsReached-merged given answer classes is formed point reached) others
-      (same.2.written held (subst (λ (a : Accept). Writes a.ops held) (sym one) writes))
+      (Alters-done theirs.ops ours.ops same.2 held (subst (λ (a : Accept). Alters a.ops held) (sym one) alters))
       (subst (λ values. Contains values other) (ap (λ (a : Accept). a.values) (sym one) ∙ same.1) has)
 
-  IsWrittenBeside-merged : (held other : Held) → IsWrittenBeside given held other → IsWrittenBeside answer held other
-  IsWrittenBeside-merged held other (on_leaving point reached writes live) =
+  IsAlteredBeside-merged : (held other : Held) → IsAlteredBeside given held other → IsAlteredBeside answer held other
+  IsAlteredBeside-merged held other (on_leaving point reached alters live) =
       let edge = live.0 in
       let found = edge-merged given answer classes is formed point.state (point.left, reached) edge live.2 in
-      on_leaving (image point) (IsReached-merged given answer classes is formed point reached) (found.2.written held writes)
+      on_leaving (image point) (IsReached-merged given answer classes is formed point reached) (Alters-done (state_at given point).leave (state_at answer (image point)).leave found.2 held alters)
       (IsLiveOnLeaving-merged given answer classes is formed point other reached live)
-  IsWrittenBeside-merged held other (on_edge point edge reached has writes live) =
+  IsAlteredBeside-merged held other (on_edge point edge reached has alters live) =
       let found = edge-merged given answer classes is formed point.state (point.left, reached) edge has in
-      on_edge (image point) found.0 (IsReached-merged given answer classes is formed point reached) found.1 (found.3.written held writes)
+      on_edge (image point) found.0 (IsReached-merged given answer classes is formed point reached) found.1 (Alters-done edge.ops (found.0).ops found.3 held alters)
       (IsLiveBehind-merged given answer classes is formed point edge found.0 other reached has found.4 live)
-  IsWrittenBeside-merged held other (on_accept point accept reached accepts writes has) =
+  IsAlteredBeside-merged held other (on_accept point accept reached accepts alters has) =
       beside-on_accept point held other accept (state_at given point).accept (state_at answer (image point)).accept reached accepts refl
-      (accept-merged given answer classes is formed point.state (point.left, reached)) writes has
+      (accept-merged given answer classes is formed point.state (point.left, reached)) alters has
 
   Interfere-merged : (held other : Held) → Interfere given held other → Interfere answer held other
-  Interfere-merged held other (inl beside) = inl (IsWrittenBeside-merged held other beside)
-  Interfere-merged held other (inr beside) = inr (IsWrittenBeside-merged other held beside)
+  Interfere-merged held other (inl beside) = inl (IsAlteredBeside-merged held other beside)
+  Interfere-merged held other (inr beside) = inr (IsAlteredBeside-merged other held beside)
 
   pub AllInterfere-merged : AllInterfere given → AllInterfere answer
   AllInterfere-merged all = record {

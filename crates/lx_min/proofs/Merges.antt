@@ -114,7 +114,7 @@ module _ (given answer : Auto) (classes : Classes) (is : IsMerge given answer cl
       let one : theirs ≡ accept = cc accepts in
       let values : accept.values ≡ ours.values = ap (λ (a : Accept). a.values) (sym one) ∙ same.1 in
       let effects : effect_of accept.ops value ≡ effect_of ours.ops value =
-      ap (λ (a : Accept). effect_of a.ops value) (sym one) ∙ same.2.effects value in
+      ap (λ (a : Accept). effect_of a.ops value) (sym one) ∙ same.2 value in
       by_accept (image_of point) held ours value others (subst (λ held_by. Contains held_by value) values has)
       (subst (λ effect. Reads effect held) effects reads)
 
@@ -153,5 +153,5 @@ module _ (given answer : Auto) (classes : Classes) (is : IsMerge given answer cl
         next,
         found.1,
         IsLiveBehind-merged point edge found.0 next reached has found.4 live,
-        subst (λ effect. Reads effect held) (found.3.effects next) reads,
+        subst (λ effect. Reads effect held) (found.3 next) reads,
       )

@@ -1,11 +1,11 @@
 -- The list of operations that stands for all those that do the same.
-use Rattle.std.specs.Prelude.{ℕ, List, [], ◌∷◌, map, Bool, true, false, nat_lt, if◌then◌else◌}
+use Rattle.std.specs.Prelude.{ℕ, List, [], ◌∷◌, ◌++◌, map, Bool, true, false, nat_lt, if◌then◌else◌}
 use Rattle.std.specs.List.{flat_map}
 use Rattle.lx_auto.specs.declared.automaton.Held.{Held}
 use Rattle.lx_auto.specs.declared.automaton.Held.TheVariants.{Reg, MReg}
 use Rattle.lx_auto.specs.declared.ops.Op.{Op}
 use Rattle.lx_auto.specs.declared.ops.Op.TheVariants.{Here, Null, Copy, MHere, MNull, MCopy}
-use Rattle.lx_auto.specs.Effects.{Effect, here, nothing, held_by, history_of, effect_of, marks_by, origin_after, target_of}
+use Rattle.lx_auto.specs.Effects.{Effect, here, nothing, held_by, history_of, copies_itself, effect_of, marks_by, origin_after, target_of}
 
 -- ---- targets, each once, in ascending order
 
@@ -46,11 +46,15 @@ abbrev pub marking : (mreg : ℕ) → (mark : Bool) → Op
 marking mreg true = MHere mreg
 marking mreg false = MNull mreg
 
+-- the operation, unless it copies a register to itself
+abbrev pub unless_itself : Op → List Op
+unless_itself op = if copies_itself op then [] else op ∷ []
+
 -- what a list does to a register, by one operation; and to an m-register, by a copy and then its marks
 abbrev pub ops_on : List Op → Held → List Op
-ops_on ops (Reg reg) = op_with reg (effect_of ops (Reg reg)) ∷ []
-ops_on ops (MReg mreg) = MCopy mreg (origin_after ops mreg mreg) ∷ map (marking mreg) (marks_by ops mreg)
+ops_on ops (Reg reg) = unless_itself (op_with reg (effect_of ops (Reg reg)))
+ops_on ops (MReg mreg) = unless_itself (MCopy mreg (origin_after ops mreg mreg)) ++ map (marking mreg) (marks_by ops mreg)
 
--- what a list does to each register that it writes
+-- what a list does to each register that it alters
 abbrev pub canonical : List Op → List Op
 canonical ops = flat_map (ops_on ops) (targets_of ops)

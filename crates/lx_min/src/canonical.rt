@@ -1,9 +1,9 @@
 //! The list of operations that stands for all those that do the same.
 ghost use Rattle.std.specs.Prelude.{◌≡◌, ◌++◌, IfOk, OnOk, map};
 ghost use Rattle.std.specs.List.{prefix_len};
-ghost use Rattle.lx_auto.specs.Effects.{effect_of, mark_by, marks_by, origin_after, origin_behind, sets, target_of};
+ghost use Rattle.lx_auto.specs.Effects.{copies_itself, effect_of, mark_by, marks_by, origin_after, origin_behind, sets, target_of};
 ghost use Rattle.lx_auto.specs.declared.automaton.Held.TheVariants.{Reg};
-ghost use Rattle.lx_min.specs.Canonical.{canonical, comes_before, marking, op_with, ops_on, targets_of, with_target};
+ghost use Rattle.lx_min.specs.Canonical.{canonical, comes_before, marking, op_with, ops_on, targets_of, unless_itself, with_target};
 
 use lx_auto::{Held, Op};
 use lx_base::Memory;
@@ -129,21 +129,41 @@ fn push_marks(list: &mut Vec<Op>, ops: &[Op], mreg: u32) -> Result<(), Memory>
     Ok(())
 }
 
+/// Whether an operation copies a register, or an m-register, to itself.
+fn copies_itself(op: Op) -> bool
+    ensures { result ≡ copies_itself op }
+{
+    match op {
+        Op::Copy(target, source) | Op::MCopy(target, source) => target == source,
+        Op::Here(_) | Op::Null(_) | Op::MHere(_) | Op::MNull(_) => false,
+    }
+}
+
+/// Appends an operation, unless it copies a register to itself.
+fn push_unless_itself(list: &mut Vec<Op>, op: Op) -> Result<(), Memory>
+    ensures { OnOk result (list.new.items ≡ list.old.items ++ unless_itself op) }
+{
+    if !copies_itself(op) {
+        list.push(op)?;
+    }
+    Ok(())
+}
+
 /// Appends what a list does to a register or an m-register.
 fn push_ops_on(list: &mut Vec<Op>, ops: &[Op], held: Held) -> Result<(), Memory>
     ensures { OnOk result (list.new.items ≡ list.old.items ++ ops_on ops.now held) }
 {
     match held {
-        Held::Reg(reg) => list.push(op_on(ops, reg))?,
+        Held::Reg(reg) => push_unless_itself(list, op_on(ops, reg))?,
         Held::MReg(mreg) => {
-            list.push(Op::MCopy(mreg, origin_on(ops, mreg)))?;
+            push_unless_itself(list, Op::MCopy(mreg, origin_on(ops, mreg)))?;
             push_marks(list, ops, mreg)?;
         }
     }
     Ok(())
 }
 
-/// What a list does to each register that it writes: one list for all those that do the same.
+/// What a list does to each register that it alters: one list for all those that do the same.
 ///
 /// Of the empty list it is the empty list, and takes no memory.
 pub(crate) fn canonical_ops(alloc: Global, ops: &[Op]) -> Result<Vec<Op>, Memory>
