@@ -104,11 +104,13 @@ module _ (given answer : Auto) (classes : Classes) (is : IsMerge given answer cl
   IsAlteredBeside-merged held other (on_leaving point reached alters live) =
       let edge = live.0 in
       let found = edge-merged given answer classes is formed point.state (point.left, reached) edge live.2 in
-      on_leaving (image point) (IsReached-merged given answer classes is formed point reached) (Alters-done (state_at given point).leave (state_at answer (image point)).leave found.2 held alters)
+      on_leaving (image point) (IsReached-merged given answer classes is formed point reached)
+      (Alters-done (state_at given point).leave (state_at answer (image point)).leave found.2 held alters)
       (IsLiveOnLeaving-merged given answer classes is formed point other reached live)
   IsAlteredBeside-merged held other (on_edge point edge reached has alters live) =
       let found = edge-merged given answer classes is formed point.state (point.left, reached) edge has in
-      on_edge (image point) found.0 (IsReached-merged given answer classes is formed point reached) found.1 (Alters-done edge.ops (found.0).ops found.3 held alters)
+      on_edge (image point) found.0 (IsReached-merged given answer classes is formed point reached) found.1
+      (Alters-done edge.ops (found.0).ops found.3 held alters)
       (IsLiveBehind-merged given answer classes is formed point edge found.0 other reached has found.4 live)
   IsAlteredBeside-merged held other (on_accept point accept reached accepts alters has) =
       beside-on_accept point held other accept (state_at given point).accept (state_at answer (image point)).accept reached accepts refl

@@ -50,8 +50,8 @@ fn classes_of(
 /// The automaton with as few states as its registers and operations allow: a word tells any two states that are left apart, and some walk
 /// comes to each (Moore 1956, over effects on registers as Trofimovich 2017 compares them).
 ///
-/// Lists of operations are compared by what they do to each register, so that a copy of a register to itself tells nothing apart. `Memory` may be answered, and no clause ties it to a
-/// cause.
+/// Lists of operations are compared by what they do to each register, so that a copy of a register to itself tells nothing apart. `Memory`
+/// may be answered, and no clause ties it to a cause.
 pub fn minimize(alloc: Global, auto: Auto) -> Result<Auto, Memory>
     requires { IsAuto auto }
     ensures formed { IfOk result IsAuto }
