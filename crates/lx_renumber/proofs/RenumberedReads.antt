@@ -8,8 +8,8 @@ use Rattle.lx_auto.specs.declared.automaton.Held.{Held}
 use Rattle.lx_auto.specs.declared.automaton.Held.TheVariants.{Reg, MReg}
 use Rattle.lx_auto.specs.declared.ops.Op.{Op}
 use Rattle.lx_auto.specs.Automaton.{state_of}
-use Rattle.lx_auto.specs.Effects.{Reads, Writes, effect_of_both}
-use Rattle.lx_auto.specs.Live.{AllInterfere, AtSomePoint, EachIsWanted, EachTargetIsRead, Interfere, IsLive, IsLiveBehind, IsLiveOnLeaving, IsWrittenBeside, by_accept, by_fallback, onward, on_accept, on_edge, on_leaving}
+use Rattle.lx_auto.specs.Effects.{Alters, Reads, effect_of_both}
+use Rattle.lx_auto.specs.Live.{AllInterfere, AtSomePoint, EachIsWanted, EachTargetIsRead, Interfere, IsAlteredBeside, IsLive, IsLiveBehind, IsLiveOnLeaving, by_accept, by_fallback, onward, on_accept, on_edge, on_leaving}
 use Rattle.lx_auto.specs.Points.{IsReached, Point, begins, goes_on, left_by, point_behind, state_at, values_left, values_of}
 use Rattle.lx_renumber.proofs.Images.{option_map-some}
 use Rattle.lx_renumber.proofs.RenumberedStates.{accept-renumbered, edges-renumbered, leave-renumbered}
@@ -104,19 +104,19 @@ module _ (by : ℕ) where
           (λ point held has. has) (source.0).ops (read.accepts state source.0 source.1));
     }
 
-    IsWrittenBeside-renumbered : (held other : Held) → IsWrittenBeside auto held other → IsWrittenBeside copy held other
-    IsWrittenBeside-renumbered held other (on_leaving point reached writes live) =
+    IsAlteredBeside-renumbered : (held other : Held) → IsAlteredBeside auto held other → IsAlteredBeside copy held other
+    IsAlteredBeside-renumbered held other (on_leaving point reached alters live) =
         on_leaving point (IsReached-renumbered point reached)
-        (subst (λ ops. Writes ops held) (sym (leave-renumbered by auto point.state)) writes) (IsLiveOnLeaving-renumbered point other live)
-    IsWrittenBeside-renumbered held other (on_edge point edge reached has writes live) =
-        on_edge point edge (IsReached-renumbered point reached) (has-also point.state edge has) writes
+        (subst (λ ops. Alters ops held) (sym (leave-renumbered by auto point.state)) alters) (IsLiveOnLeaving-renumbered point other live)
+    IsAlteredBeside-renumbered held other (on_edge point edge reached has alters live) =
+        on_edge point edge (IsReached-renumbered point reached) (has-also point.state edge has) alters
         (IsLiveBehind-renumbered point edge other live)
-    IsWrittenBeside-renumbered held other (on_accept point accept reached accepts writes has) =
-        on_accept point (renumbered_accept by accept) (IsReached-renumbered point reached) (accepts-also point.state accept accepts) writes has
+    IsAlteredBeside-renumbered held other (on_accept point accept reached accepts alters has) =
+        on_accept point (renumbered_accept by accept) (IsReached-renumbered point reached) (accepts-also point.state accept accepts) alters has
 
     Interfere-renumbered : (held other : Held) → Interfere auto held other → Interfere copy held other
-    Interfere-renumbered held other (inl beside) = inl (IsWrittenBeside-renumbered held other beside)
-    Interfere-renumbered held other (inr beside) = inr (IsWrittenBeside-renumbered other held beside)
+    Interfere-renumbered held other (inl beside) = inl (IsAlteredBeside-renumbered held other beside)
+    Interfere-renumbered held other (inr beside) = inr (IsAlteredBeside-renumbered other held beside)
 
     pub AllInterfere-renumbered : AllInterfere auto → AllInterfere copy
     AllInterfere-renumbered all = record {
