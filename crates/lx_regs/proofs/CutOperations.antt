@@ -2,8 +2,10 @@
 pub mod CutAutomata
 pub mod CutLive
 pub mod CutSteps
+pub mod FewerOps
 pub mod KeptEdges
 pub mod KeptOps
 pub mod KeptSteps
 pub mod KeptUsages
 pub mod ReadLists
+pub mod UnsetRegisters

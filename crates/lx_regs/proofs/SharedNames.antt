@@ -1,4 +1,5 @@
 -- Registers that do not interfere share names, by the colours of a graph.
+pub mod AlteredRegisters
 pub mod ColourSteps
 pub mod GraphLists
 pub mod GraphSteps

@@ -6,6 +6,7 @@ pub mod NameMembers
 pub mod OrderedOps
 pub mod Pairs
 pub mod RenamedAutomata
+pub mod RenamedCounts
 pub mod RenamedEffects
 pub mod RenamedInterference
 pub mod RenamedReads

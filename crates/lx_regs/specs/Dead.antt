@@ -7,15 +7,16 @@ use Rattle.lx_auto.specs.declared.automaton.Held.{Held}
 use Rattle.lx_auto.specs.declared.automaton.State.{State}
 use Rattle.lx_auto.specs.declared.ops.Op.{Op}
 use Rattle.lx_auto.specs.Automaton.{state_of}
-use Rattle.lx_auto.specs.Effects.{is_overwritten, target_of}
+use Rattle.lx_auto.specs.Effects.{target_of}
 use Rattle.lx_auto.specs.Live.{AtSomePoint, IsLiveBehind, IsLiveOnLeaving}
+use Rattle.lx_regs.specs.IdleOps.{is_idle}
 
--- those operations of a list stay that write what is wanted, unless a later one takes away what they did
+-- those operations of a list stay that write what is wanted, unless a later one takes away what they did, or they copy it to itself
 pub data KeepsWanted (IsWanted : Held → Type 0) : (ops kept : List Op) → Type 0 where
   ends : KeepsWanted IsWanted [] []
-  stays : (op : Op) (ops kept : List Op) → IsWanted (target_of op) → is_overwritten op ops ≡ false → KeepsWanted IsWanted ops kept
+  stays : (op : Op) (ops kept : List Op) → IsWanted (target_of op) → is_idle op ops ≡ false → KeepsWanted IsWanted ops kept
       → KeepsWanted IsWanted (op ∷ ops) (op ∷ kept)
-  goes : (op : Op) (ops kept : List Op) → (IsWanted (target_of op) → is_overwritten op ops ≡ true) → KeepsWanted IsWanted ops kept
+  goes : (op : Op) (ops kept : List Op) → (IsWanted (target_of op) → is_idle op ops ≡ true) → KeepsWanted IsWanted ops kept
       → KeepsWanted IsWanted (op ∷ ops) kept
 
 -- of the state with this number

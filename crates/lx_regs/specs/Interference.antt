@@ -6,12 +6,13 @@ use Rattle.lx_auto.specs.declared.automaton.Edge.{Edge}
 use Rattle.lx_auto.specs.declared.automaton.Held.{Held}
 use Rattle.lx_auto.specs.Automaton.{IsAuto, state_of}
 use Rattle.lx_auto.specs.Effects.{Reads, Writes, effect_of}
-use Rattle.lx_auto.specs.Live.{AtSomePoint, Interfere, IsLiveBehind, IsWrittenBeside}
+use Rattle.lx_auto.specs.Live.{AtSomePoint, IsLiveBehind}
 use Rattle.lx_regs.specs.declared.held_graphs.HeldGraph.{HeldGraph}
 use Rattle.lx_regs.specs.declared.interference.Known.{Known}
 use Rattle.lx_regs.specs.Graphs.{size_of}
 use Rattle.lx_regs.specs.HeldGraphs.{AreJoined, AreTwo, IsHeldGraph}
 use Rattle.lx_regs.specs.LiveSets.{IsLivenessOf}
+use Rattle.lx_regs.specs.WrittenBeside.{IsWrittenBeside, MayInterfere}
 use Rattle.lx_auto.specs.MetStates.{AreMet}
 use Rattle.lx_auto.specs.Points.{IsMet}
 
@@ -27,11 +28,11 @@ pub record IsGraphFor (auto : Auto) (graph : HeldGraph) : Type 0 where
   pub reg_count : size_of graph.regs ≡ auto.regs
   pub mreg_count : size_of graph.mregs ≡ auto.mregs - 1
 
--- neighbours are those that interfere
+-- neighbours are those of which one is written while the other is live
 pub record IsInterferenceOf (auto : Auto) (graph : HeldGraph) : Type 0 where
   pub fits : IsGraphFor auto graph
   pub complete : (held other : Held) → IsWrittenBeside auto held other → AreTwo held other → AreJoined graph held other
-  pub sound : (held other : Held) → AreJoined graph held other → Interfere auto held other
+  pub sound : (held other : Held) → AreJoined graph held other → MayInterfere auto held other
 
 module _ (auto : Auto) (state : ℕ) where
   -- live behind an edge out of the state, at some point of the state

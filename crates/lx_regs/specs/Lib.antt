@@ -7,6 +7,7 @@ pub mod Graphs
 pub mod Growth
 pub mod HeldGraphs
 pub mod HeldSets
+pub mod IdleOps
 pub mod Interference
 pub mod Items
 pub mod KeptLists
@@ -26,3 +27,4 @@ pub mod Reads
 pub mod Shapes
 pub mod SharedNames
 pub mod Tested
+pub mod WrittenBeside

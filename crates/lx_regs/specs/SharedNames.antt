@@ -10,8 +10,8 @@ use Rattle.lx_auto.specs.declared.ops.Op.TheVariants.{Here, Null, Copy, MHere, M
 use Rattle.lx_auto.specs.declared.automaton.Held.TheVariants.{Reg, MReg}
 use Rattle.lx_auto.specs.Automaton.{AreStates}
 use Rattle.lx_auto.specs.Effects.{Names, renamed}
-use Rattle.lx_auto.specs.Live.{Interfere, IsWrittenBeside}
 use Rattle.lx_regs.specs.Bounds.{IsBoundOf}
+use Rattle.lx_regs.specs.WrittenBeside.{IsWrittenBeside, MayInterfere}
 use Rattle.lx_regs.specs.declared.shared_names.SharedNames.{SharedNames}
 use Rattle.lx_regs.specs.declared.sharing.Counts.{Counts}
 
@@ -56,16 +56,16 @@ module _ (names : Names) where
     pub zero : names.mregs 0 ≡ 0
     pub others : (mreg : ℕ) → 0 < mreg → mreg < mregs → 0 < names.mregs mreg
 
-  -- registers that have one name do not interfere
+  -- registers that have one name are not written beside one another
   abbrev pub KeepApart : Auto → Type 0
   KeepApart auto = (held other : Held) → IsWrittenBeside auto held other → renamed names held ≡ renamed names other → held ≡ other
 
   -- any two names below `named` are those of two registers that interfere; and so it is with m-registers, m-register 0 aside
   pub record AreTight (auto : Auto) (named mnamed : ℕ) : Type 0 where
     pub of_regs : (name other : ℕ) → name < named → other < named → name ≢ other
-        → (reg second : ℕ) × Interfere auto (Reg reg) (Reg second) × (names.regs reg ≡ name) × (names.regs second ≡ other)
+        → (reg second : ℕ) × MayInterfere auto (Reg reg) (Reg second) × (names.regs reg ≡ name) × (names.regs second ≡ other)
     pub of_mregs : (name other : ℕ) → 0 < name → name < mnamed → 0 < other → other < mnamed → name ≢ other
-        → (mreg second : ℕ) × Interfere auto (MReg mreg) (MReg second) × (names.mregs mreg ≡ name) × (names.mregs second ≡ other)
+        → (mreg second : ℕ) × MayInterfere auto (MReg mreg) (MReg second) × (names.mregs mreg ≡ name) × (names.mregs second ≡ other)
 
   -- names for so many registers and m-registers of an automaton, as few as can be had by joining registers that do not interfere
   pub record AreShared (auto : Auto) (regs mregs named mnamed : ℕ) : Type 0 where

@@ -9,7 +9,7 @@ ghost use Rattle.lx_regs.specs.Shapes.{KeepsShape};
 use crate::dead::drop_dead;
 use crate::merging::merge_equal;
 use crate::renaming::choose_by_state;
-use crate::sharing::share_registers;
+use crate::sharing_rounds::share_all;
 use lx_auto::Auto;
 use lx_base::Memory;
 use std::alloc::Global;
@@ -30,5 +30,5 @@ pub fn allocate(alloc: Global, auto: Auto) -> Result<Auto, Memory>
     let read = drop_dead(alloc, merged)?;
     let chosen = choose_by_state(alloc, read)?;
     let live = drop_dead(alloc, chosen)?;
-    share_registers(alloc, live)
+    share_all(alloc, live)
 }

@@ -1,10 +1,12 @@
 //! Operations that no walk reads (dead code elimination: Trofimovich 2017).
-ghost use Rattle.std.specs.Prelude.{◌↔◌, ◌<◌, [], ◌∷◌, Contains, IfOk, OnOk, length};
+ghost use Rattle.std.specs.Prelude.{◌≡◌, ◌↔◌, ◌<◌, [], ◌∷◌, Contains, IfOk, OnOk, length, true};
+ghost use Rattle.std.specs.List.{list_any};
 ghost use Rattle.lx_auto.specs.Automaton.{IsAuto, state_of};
 ghost use Rattle.lx_auto.specs.Live.{AtSomePoint, EachTargetIsRead};
 ghost use Rattle.lx_auto.specs.SameRun.{HasSameRun};
 ghost use Rattle.lx_auto.specs.declared.automaton.Held.{Held as HeldValue};
 ghost use Rattle.lx_regs.specs.Dead.{AreEdgesCut, AreStatesCut, IsAcceptCut, IsEdgeCut, IsStateCut};
+ghost use Rattle.lx_regs.specs.IdleOps.{count_in, some_itself_at};
 ghost use Rattle.lx_regs.specs.KeptLists.{IsListed};
 ghost use Rattle.lx_regs.specs.Leaving.{AddsRead, IsSource};
 ghost use Rattle.lx_regs.specs.LiveSets.{IsLivenessOf};
@@ -161,14 +163,15 @@ fn states_without_dead(alloc: Global, auto: &Auto) -> Result<Sequence<State>, Me
     states_by(alloc, auto, &liveness)
 }
 
-/// The automaton without the operations that no walk reads: each that stays writes what is live behind its list, and no later one of the
-/// list takes that away.
+/// The automaton without the operations that no walk reads: each that stays writes what is live behind its list, no later one of the list
+/// takes that away, and it copies no register to itself.
 pub fn drop_dead(alloc: Global, auto: Auto) -> Result<Auto, Memory>
     requires { IsAuto auto }
     ensures formed { IfOk result IsAuto }
     ensures run { IfOk result (λ answer. HasSameRun answer auto) }
     ensures read { IfOk result EachTargetIsRead }
     ensures kept { IfOk result (λ answer. KeepsShape auto answer) }
+    ensures fewer { IfOk result (λ answer. list_any some_itself_at auto.states ≡ true → count_in answer.states < count_in auto.states) }
 {
     let states = states_without_dead(alloc, &auto)?;
     Ok(Auto {

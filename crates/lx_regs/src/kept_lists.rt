@@ -6,9 +6,11 @@ ghost use Rattle.lx_auto.specs.declared.automaton.Held.{Held as HeldValue};
 ghost use Rattle.lx_auto.specs.declared.ops.Op.{Op as OpValue};
 ghost use Rattle.lx_regs.specs.Dead.{KeepsWanted};
 ghost use Rattle.lx_regs.specs.HeldSets.{Has, has, is_same};
+ghost use Rattle.lx_regs.specs.IdleOps.{is_idle};
 ghost use Rattle.lx_regs.specs.KeptLists.{AreWritten, IsListed, copies_from, is_read, overwrites, writes};
 
 use crate::held_sets::HeldSet;
+use crate::idle_ops::copies_itself;
 use lx_auto::{Held, Op, Ops};
 use lx_base::Memory;
 use std::alloc::Global;
@@ -23,7 +25,8 @@ fn is_last(written: &mut HeldSet, held: Held) -> Result<bool, Memory>
     Ok(last)
 }
 
-/// Whether an operation stays, where all that later ones overwrite is noted; what it overwrites is noted too.
+/// Whether an operation writes what is wanted and no later one takes that away, where all that later ones overwrite is noted; what it
+/// overwrites is noted too.
 fn stays(wanted: &HeldSet, written: &mut HeldSet, op: Op) -> Result<bool, Memory>
     ensures stays { IfOk result (λ stays. (ops : List OpValue) → AreWritten written.old ops
         → stays ≡ (has wanted.now (target_of op) && not (is_overwritten op ops))) }
@@ -42,6 +45,16 @@ fn stays(wanted: &HeldSet, written: &mut HeldSet, op: Op) -> Result<bool, Memory
     }
 }
 
+/// Whether an operation stays, where all that later ones overwrite is noted: it does not if it copies a register to itself.
+fn acts(wanted: &HeldSet, written: &mut HeldSet, op: Op) -> Result<bool, Memory>
+    ensures acts { IfOk result (λ acts. (ops : List OpValue) → AreWritten written.old ops
+        → acts ≡ (has wanted.now (target_of op) && not (is_idle op ops))) }
+    ensures noted { OnOk result ((ops : List OpValue) → AreWritten written.old ops → AreWritten written.new (op ∷ ops)) }
+{
+    let last = stays(wanted, written, op)?;
+    Ok(last & !copies_itself(op))
+}
+
 /// Puts an operation behind those that stay, if it stays.
 fn keep_op(
     wanted: &HeldSet,
@@ -53,7 +66,7 @@ fn keep_op(
     ensures kept { OnOk result ((ops : List OpValue) → AreWritten written.old ops
         → KeepsWanted (Has wanted.now) ops (reverse kept.old.items) → KeepsWanted (Has wanted.now) (op ∷ ops) (reverse kept.new.items)) }
 {
-    if stays(wanted, written, op)? {
+    if acts(wanted, written, op)? {
         kept.push(op)?;
     }
     Ok(())
@@ -70,7 +83,8 @@ fn ops_of(alloc: Global, items: &[Op]) -> Result<Ops, Memory>
     Ok(ops)
 }
 
-/// The operations of a list that write what is in a set, but for those of which a later one takes away what they did.
+/// The operations of a list that write what is in a set, but for those of which a later one takes away what they did, and for copies of
+/// registers to themselves.
 pub(crate) fn kept_by(alloc: Global, ops: &[Op], wanted: &HeldSet) -> Result<Ops, Memory>
     ensures { IfOk result (KeepsWanted (Has wanted.now) ops.now) }
 {
@@ -106,7 +120,8 @@ pub(crate) fn targets_of(alloc: Global, ops: &[Op]) -> Result<HeldSet, Memory>
     Ok(targets)
 }
 
-/// The operations of a list that write what is wanted, but for those of which a later one takes away what they did.
+/// The operations of a list that write what is wanted, but for those of which a later one takes away what they did, and for copies of
+/// registers to themselves.
 pub(crate) fn kept_ops(alloc: Global, ops: &[Op], wanted: &[Held]) -> Result<Ops, Memory>
     ensures { IfOk result (KeepsWanted (IsListed wanted.now) ops.now) }
 {

@@ -4,13 +4,14 @@ ghost use Rattle.lx_auto.specs.Automaton.{IsAuto};
 ghost use Rattle.lx_auto.specs.Effects.{Names};
 ghost use Rattle.lx_auto.specs.Live.{EachTargetIsRead};
 ghost use Rattle.lx_auto.specs.SameRun.{HasSameRun};
-ghost use Rattle.lx_auto.specs.Live.{AllInterfere};
 ghost use Rattle.lx_regs.specs.Bounds.{IsBoundOf};
 ghost use Rattle.lx_regs.specs.Colours.{IsSharing};
 ghost use Rattle.lx_regs.specs.Graphs.{IsGraph, size_of};
+ghost use Rattle.lx_regs.specs.IdleOps.{count_in};
 ghost use Rattle.lx_regs.specs.Interference.{IsInterferenceOf};
 ghost use Rattle.lx_regs.specs.Shapes.{KeepsShape};
 ghost use Rattle.lx_regs.specs.SharedNames.{AreCounted, AreSharedBelow, names_of};
+ghost use Rattle.lx_regs.specs.WrittenBeside.{AllMayInterfere};
 
 use crate::copies::copies_of;
 use crate::fitting::states_fit;
@@ -160,15 +161,16 @@ fn counts_of(auto: &Auto, names: &SharedNames) -> Counts
     without_mregs(auto, counts)
 }
 
-/// The automaton in which registers that do not interfere are one, as far as they go: any two registers of one sort that are left
-/// interfere. A register shares that of its copies where it can.
+/// The automaton in which registers that do not interfere are one, as far as they go: of any two registers of one sort that are left a list
+/// writes the one while the other is live, be it that it copies it to itself. A register shares that of its copies where it can.
 pub(crate) fn share_registers(alloc: Global, auto: Auto) -> Result<Auto, Memory>
     requires { IsAuto auto }
     ensures formed { IfOk result IsAuto }
     ensures run { IfOk result (λ answer. HasSameRun answer auto) }
-    ensures apart { IfOk result AllInterfere }
+    ensures apart { IfOk result AllMayInterfere }
     ensures read { EachTargetIsRead auto → IfOk result EachTargetIsRead }
     ensures kept { IfOk result (λ answer. KeepsShape auto answer) }
+    ensures count { IfOk result (λ answer. count_in answer.states ≡ count_in auto.states) }
 {
     let names = shared_names(alloc, &auto)?;
     let counts = counts_of(&auto, &names);

@@ -6,21 +6,14 @@ use Rattle.lx_auto.specs.declared.automaton.Held.{Held}
 use Rattle.lx_auto.specs.declared.automaton.Held.TheVariants.{Reg, MReg}
 use Rattle.lx_auto.specs.declared.ops.Op.{Op}
 use Rattle.lx_auto.specs.declared.ops.Op.TheVariants.{Here, Null, Copy, MHere, MNull, MCopy}
-use Rattle.lx_auto.specs.Effects.{Effect, here, nothing, held_by, Reads, copies_into, effect_after, effect_behind, effect_of, is_overwritten, origin_after, origin_behind, sets, target_of}
+use Rattle.lx_auto.specs.Effects.{Effect, here, nothing, held_by, Reads, copies_into, copies_itself, effect_after, effect_behind, effect_of, is_overwritten, origin_after, origin_behind, sets, target_of}
 use Rattle.lx_regs.specs.Dead.{KeepsWanted, ends, stays, goes}
 use Rattle.lx_regs.specs.HeldSets.{is_same}
 use Rattle.lx_regs.specs.KeptLists.{IsListed, copies_from, is_read, overwrites}
 use Rattle.lx_regs.proofs.CutOperations.KeptOps.{effect_after-set, is_overwritten-kept, origin_after-copied}
+use Rattle.lx_regs.proofs.CutOperations.UnsetRegisters.{effect_after-unset, none-first, origin_after-uncopied}
 
 -- ---- tests
-
-none-first : (first second : Bool) → (first || second) ≡ false → first ≡ false
-none-first true second none = none
-none-first false second none = refl
-
-none-second : (first second : Bool) → (first || second) ≡ false → second ≡ false
-none-second true second none = absurd (cc none)
-none-second false second none = none
 
 or-second : (first second : Bool) → second ≡ true → (first || second) ≡ true
 or-second true second is = refl
@@ -72,34 +65,6 @@ Contains-listed (first ∷ items) held (suc place, within, is) =
     or-second (is_same held first) (list_any (is_same held) items) (Contains-listed items held (place, omega arith, is))
 
 -- ---- what no operation overwrites stays as it is
-
-effect_behind-unset : (op : Op) (reg : ℕ) (effect : Effect) → sets reg op ≡ false → effect_behind op reg effect ≡ effect
-effect_behind-unset (Here target) reg effect none = ap (λ b. if b then here else effect) none
-effect_behind-unset (Null target) reg effect none = ap (λ b. if b then nothing else effect) none
-effect_behind-unset (Copy target source) reg effect none = ap (λ b. if b then held_by source else effect) none
-effect_behind-unset (MHere target) reg effect none = refl
-effect_behind-unset (MNull target) reg effect none = refl
-effect_behind-unset (MCopy target source) reg effect none = refl
-
-effect_after-unset : (ops : List Op) (reg : ℕ) (effect : Effect) → list_any (sets reg) ops ≡ false → effect_after ops reg effect ≡ effect
-effect_after-unset [] reg effect none = refl
-effect_after-unset (op ∷ ops) reg effect none =
-    effect_after-unset ops reg (effect_behind op reg effect) (none-second (sets reg op) (list_any (sets reg) ops) none)
-    ∙ effect_behind-unset op reg effect (none-first (sets reg op) (list_any (sets reg) ops) none)
-
-origin_behind-uncopied : (op : Op) (mreg origin : ℕ) → copies_into mreg op ≡ false → origin_behind op mreg origin ≡ origin
-origin_behind-uncopied (MCopy target source) mreg origin none = ap (λ b. if b then source else origin) none
-origin_behind-uncopied (Here target) mreg origin none = refl
-origin_behind-uncopied (Null target) mreg origin none = refl
-origin_behind-uncopied (Copy target source) mreg origin none = refl
-origin_behind-uncopied (MHere target) mreg origin none = refl
-origin_behind-uncopied (MNull target) mreg origin none = refl
-
-origin_after-uncopied : (ops : List Op) (mreg origin : ℕ) → list_any (copies_into mreg) ops ≡ false → origin_after ops mreg origin ≡ origin
-origin_after-uncopied [] mreg origin none = refl
-origin_after-uncopied (op ∷ ops) mreg origin none =
-    origin_after-uncopied ops mreg (origin_behind op mreg origin) (none-second (copies_into mreg op) (list_any (copies_into mreg) ops) none)
-    ∙ origin_behind-uncopied op mreg origin (none-first (copies_into mreg op) (list_any (copies_into mreg) ops) none)
 
 Reads-unwritten : (ops : List Op) (held : Held) → list_any (overwrites held) ops ≡ false → Reads (effect_of ops held) held
 Reads-unwritten ops (Reg reg) none = subst (λ effect. Reads effect (Reg reg)) (sym (effect_after-unset ops reg (held_by reg) none)) refl
@@ -267,7 +232,9 @@ module _ (held : Held) where
         at : (copies_from held op ≡ true) ⊎ (list_any (copies_from held) kept ≡ true)
             → (list_any (copies_from held) kept ≡ true → IsCopied kept)
             → IsCopied (op ∷ kept)
-        at (inl first) rest = IsCopied-here op kept wanted (is_overwritten-kept IsWanted op ops kept keeps last) first
+        at (inl first) rest =
+            let none = none-first (is_overwritten op ops) (copies_itself op) last in
+            IsCopied-here op kept wanted (is_overwritten-kept IsWanted op ops kept keeps none) first
         at (inr later) rest = IsCopied-later op kept (rest later)
     copies-read _ _ (goes op ops kept un keeps) copies = copies-read ops kept keeps copies
 

@@ -12,10 +12,10 @@ use Rattle.lx_auto.specs.declared.automaton.Held.TheVariants.{Reg, MReg}
 use Rattle.lx_auto.specs.declared.ops.Op.{Op}
 use Rattle.lx_auto.specs.Automaton.{IsAuto, IsHeld, state_of}
 use Rattle.lx_auto.specs.Effects.{Reads, effect_of}
-use Rattle.lx_auto.specs.Live.{Interfere, IsWrittenBeside, on_accept, on_edge, on_leaving}
 use Rattle.lx_auto.specs.Points.{point_behind}
 use Rattle.lx_auto.proofs.SameLists.{Contains-later}
 use Rattle.lx_auto.proofs.States.{state_formed}
+use Rattle.lx_regs.specs.WrittenBeside.{IsWrittenBeside, MayInterfere, written_on_accept, written_on_edge, written_on_leaving}
 use Rattle.lx_regs.specs.declared.held_graphs.HeldGraph.{HeldGraph}
 use Rattle.lx_regs.specs.HeldGraphs.{AreBeside, AreJoined, IsHeldGraph, IsThere, Notes, in_front, read_each}
 use Rattle.lx_regs.specs.Interference.{AreBesideAt, AreBesideBelow, AreBesideOnAccept, AreBesideOnEdge, AreBesideOnEdges, IsGraphFor, IsInterferenceOf, IsLiveSomehow}
@@ -205,23 +205,23 @@ module _ (auto : Auto) where
   -- what interferes is beside one another at some state
   beside-found : (bound : ℕ) → length auto.states ≤ bound → (held other : Held) → IsWrittenBeside auto held other
       → AreBesideBelow auto bound held other
-  beside-found bound all held other (on_leaving point reached writes (edge, next, has, live, reads)) =
+  beside-found bound all held other (written_on_leaving point reached writes (edge, next, has, live, reads)) =
       let within = edge-there auto.states point.state edge has in
       (point.state, omega arith, inl (edge, has, inr (writes, (next, (point.left, reached, live), reads))))
-  beside-found bound all held other (on_edge point edge reached has writes live) =
+  beside-found bound all held other (written_on_edge point edge reached has writes live) =
       let within = edge-there auto.states point.state edge has in
       (point.state, omega arith, inl (edge, has, inl (writes, (point.left, reached, live))))
-  beside-found bound all held other (on_accept point accept reached accepts writes has) =
+  beside-found bound all held other (written_on_accept point accept reached accepts writes has) =
       let within = accept-there auto.states point.state accept accepts in
       (point.state, omega arith, inr (accept, accepts, (point.left, reached), writes, has))
 
   beside-written : (bound : ℕ) (held other : Held) → AreBesideBelow auto bound held other → IsWrittenBeside auto held other
   beside-written bound held other (state, within, inl (edge, has, inl (writes, (left, reached, live)))) =
-      on_edge (record { state = state; left = left }) edge reached has writes live
+      written_on_edge (record { state = state; left = left }) edge reached has writes live
   beside-written bound held other (state, within, inl (edge, has, inr (writes, (next, (left, reached, live), reads)))) =
-      on_leaving (record { state = state; left = left }) reached writes (edge, next, has, live, reads)
+      written_on_leaving (record { state = state; left = left }) reached writes (edge, next, has, live, reads)
   beside-written bound held other (state, within, inr (accept, accepts, (left, reached), writes, has)) =
-      on_accept (record { state = state; left = left }) accept reached accepts writes has
+      written_on_accept (record { state = state; left = left }) accept reached accepts writes has
 
   pub interference-whole : (bound : ℕ) (old new : HeldGraph) → length auto.states ≤ bound → IsGraphFor auto new
       → ((held other : Held) → AreJoined old held other → ⊥) → Notes (AreBesideBelow auto bound) old new → IsInterferenceOf auto new
@@ -232,7 +232,7 @@ module _ (auto : Auto) where
   }
     where
       at : (held other : Held) → AreJoined old held other ⊎ (AreBesideBelow auto bound held other ⊎ AreBesideBelow auto bound other held)
-          → Interfere auto held other
+          → MayInterfere auto held other
       at held other (inl before) = absurd (none held other before)
       at held other (inr (inl beside)) = inl (beside-written bound held other beside)
       at held other (inr (inr beside)) = inr (beside-written bound other held beside)

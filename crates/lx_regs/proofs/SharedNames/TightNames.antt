@@ -11,19 +11,18 @@ use Rattle.lx_auto.specs.Automaton.{IsAuto, IsOp, AreOps}
 use Rattle.lx_auto.specs.declared.ops.Op.{Op}
 use Rattle.lx_auto.specs.declared.ops.Op.TheVariants.{Here, Null, Copy, MHere, MNull, MCopy}
 use Rattle.lx_auto.specs.Effects.{Names, Writes, target_of}
-use Rattle.lx_auto.specs.Live.{Interfere, IsWrittenBeside, on_accept, on_edge, on_leaving}
 use Rattle.lx_auto.specs.Points.{state_at}
 use Rattle.lx_auto.proofs.States.{state_formed}
+use Rattle.lx_regs.specs.WrittenBeside.{AllMayInterfere, IsWrittenBeside, MayInterfere, written_on_accept, written_on_edge, written_on_leaving}
 use Rattle.lx_regs.specs.declared.graphs.Graph.{Graph}
 use Rattle.lx_regs.specs.declared.held_graphs.HeldGraph.{HeldGraph}
-use Rattle.lx_auto.specs.Live.{AllInterfere}
 use Rattle.lx_regs.specs.Bounds.{IsBoundOf}
 use Rattle.lx_regs.specs.Colours.{IsSharing}
 use Rattle.lx_regs.specs.Graphs.{AreNeighbours, IsGraph, size_of}
 use Rattle.lx_regs.specs.Interference.{IsInterferenceOf}
 use Rattle.lx_regs.specs.SharedNames.{AreShared, AreTight, FitWithin, KeepApart, renamed_auto}
 use Rattle.lx_regs.proofs.LiveRegisters.HeldBounds.{accept-formed, edge-ops}
-use Rattle.lx_regs.proofs.Translations.RenamedInterference.{Interfere-renamed}
+use Rattle.lx_regs.proofs.Translations.RenamedInterference.{MayInterfere-renamed}
 
 -- ---- colours
 
@@ -114,12 +113,12 @@ module _ (auto : Auto) (formed : IsAuto auto) (graph : HeldGraph) (interference 
       above-held regs mregs ops mreg are.1 (op, (place, omega arith, is), writes)
 
   written-above : (mreg : ℕ) (other : Held) → IsWrittenBeside auto (MReg mreg) other → (0 < mreg) × (mreg < auto.mregs)
-  written-above mreg other (on_leaving point reached writes live) =
+  written-above mreg other (written_on_leaving point reached writes live) =
       above-held auto.regs auto.mregs (state_at auto point).leave mreg (state_formed auto point.state formed).leave writes
-  written-above mreg other (on_edge point edge reached has writes live) =
+  written-above mreg other (written_on_edge point edge reached has writes live) =
       above-held auto.regs auto.mregs edge.ops mreg
       (edge-ops auto.regs auto.mregs (length auto.states) (state_at auto point).edges edge (state_formed auto point.state formed).lead has) writes
-  written-above mreg other (on_accept point accept reached accepts writes has) =
+  written-above mreg other (written_on_accept point accept reached accepts writes has) =
       let are = accept-formed auto.regs auto.mregs (state_at auto point).accept accept (state_formed auto point.state formed).accept accepts in
       above-held auto.regs auto.mregs accept.ops mreg are.0 writes
 
@@ -199,12 +198,12 @@ module _ (auto : Auto) (formed : IsAuto auto) (graph : HeldGraph) (interference 
             (place, inside, omega (arith, name, last))
 
     of_two_regs : (name other : ℕ) → HaveNeighbours graph.regs interference.fits.formed.of_regs regs of_regs name other
-        → (reg second : ℕ) × Interfere auto (Reg reg) (Reg second) × (names.regs reg ≡ name) × (names.regs second ≡ other)
+        → (reg second : ℕ) × MayInterfere auto (Reg reg) (Reg second) × (names.regs reg ≡ name) × (names.regs second ≡ other)
     of_two_regs name other (reg, second, near, one, two) = (reg, second, interference.sound (Reg reg) (Reg second) near, one, two)
 
     of_two_mregs : (name other : ℕ) → 0 < name → 0 < other
         → HaveNeighbours graph.mregs interference.fits.formed.of_mregs colours of_mregs (name - 1) (other - 1)
-        → (mreg second : ℕ) × Interfere auto (MReg mreg) (MReg second) × (names.mregs mreg ≡ name) × (names.mregs second ≡ other)
+        → (mreg second : ℕ) × MayInterfere auto (MReg mreg) (MReg second) × (names.mregs mreg ≡ name) × (names.mregs second ≡ other)
     of_two_mregs name other above other_above (member, second, near, one, two) =
         let within = interference.fits.formed.of_mregs.within member second near in
         let member_within = interference.fits.formed.of_mregs.within second member (interference.fits.formed.of_mregs.both_ways member second near) in
@@ -300,7 +299,7 @@ module _ (auto : Auto) (names : Names) (regs mregs named mnamed : ℕ) (shared :
 
 -- where names are tight any two registers of the automaton by these names interfere
 pub shared-interfere : (auto : Auto) (names : Names) (regs mregs named mnamed : ℕ) → AreShared names auto regs mregs named mnamed
-    → AllInterfere (renamed_auto names named mnamed auto)
+    → AllMayInterfere (renamed_auto names named mnamed auto)
 shared-interfere auto names regs mregs named mnamed shared = record {
   regs = λ reg other within other_within differs. at_regs reg other (shared.tight.of_regs reg other within other_within differs);
   mregs = λ mreg other above within other_above other_within differs.
@@ -308,17 +307,17 @@ shared-interfere auto names regs mregs named mnamed shared = record {
 }
   where
     at_regs : (name other : ℕ)
-        → ((reg second : ℕ) × Interfere auto (Reg reg) (Reg second) × (names.regs reg ≡ name) × (names.regs second ≡ other))
-        → Interfere (renamed_auto names named mnamed auto) (Reg name) (Reg other)
+        → ((reg second : ℕ) × MayInterfere auto (Reg reg) (Reg second) × (names.regs reg ≡ name) × (names.regs second ≡ other))
+        → MayInterfere (renamed_auto names named mnamed auto) (Reg name) (Reg other)
     at_regs name other (reg, second, interfere, one, two) =
-        subst (λ n. Interfere (renamed_auto names named mnamed auto) (Reg n) (Reg other)) one
-        (subst (λ n. Interfere (renamed_auto names named mnamed auto) (Reg (names.regs reg)) (Reg n)) two
-        (Interfere-renamed auto names named mnamed shared.apart shared.fit.zero (Reg reg) (Reg second) interfere))
+        subst (λ n. MayInterfere (renamed_auto names named mnamed auto) (Reg n) (Reg other)) one
+        (subst (λ n. MayInterfere (renamed_auto names named mnamed auto) (Reg (names.regs reg)) (Reg n)) two
+        (MayInterfere-renamed auto names named mnamed shared.apart shared.fit.zero (Reg reg) (Reg second) interfere))
 
     at_mregs : (name other : ℕ)
-        → ((mreg second : ℕ) × Interfere auto (MReg mreg) (MReg second) × (names.mregs mreg ≡ name) × (names.mregs second ≡ other))
-        → Interfere (renamed_auto names named mnamed auto) (MReg name) (MReg other)
+        → ((mreg second : ℕ) × MayInterfere auto (MReg mreg) (MReg second) × (names.mregs mreg ≡ name) × (names.mregs second ≡ other))
+        → MayInterfere (renamed_auto names named mnamed auto) (MReg name) (MReg other)
     at_mregs name other (mreg, second, interfere, one, two) =
-        subst (λ n. Interfere (renamed_auto names named mnamed auto) (MReg n) (MReg other)) one
-        (subst (λ n. Interfere (renamed_auto names named mnamed auto) (MReg (names.mregs mreg)) (MReg n)) two
-        (Interfere-renamed auto names named mnamed shared.apart shared.fit.zero (MReg mreg) (MReg second) interfere))
+        subst (λ n. MayInterfere (renamed_auto names named mnamed auto) (MReg n) (MReg other)) one
+        (subst (λ n. MayInterfere (renamed_auto names named mnamed auto) (MReg (names.mregs mreg)) (MReg n)) two
+        (MayInterfere-renamed auto names named mnamed shared.apart shared.fit.zero (MReg mreg) (MReg second) interfere))

@@ -9,12 +9,13 @@ use Rattle.lx_auto.specs.declared.automaton.Held.{Held}
 use Rattle.lx_auto.specs.declared.automaton.State.{State}
 use Rattle.lx_auto.specs.declared.ops.Op.{Op}
 use Rattle.lx_auto.specs.Effects.{Names, Reads, Writes, effect_of, renamed}
-use Rattle.lx_auto.specs.Live.{Interfere, IsLive, IsLiveBehind, IsLiveOnLeaving, IsWrittenBeside, on_accept, on_edge, on_leaving}
+use Rattle.lx_auto.specs.Live.{IsLive, IsLiveBehind, IsLiveOnLeaving}
 use Rattle.lx_auto.specs.Points.{Point, IsReached, goes_on, point_behind, state_at}
 use Rattle.lx_auto.specs.Translations.{IsTranslation}
 use Rattle.lx_auto.proofs.Effects.{Reads-renamed}
 use Rattle.lx_auto.proofs.SameLists.{Contains-map}
 use Rattle.lx_auto.proofs.TranslatedWalks.{IsLive-translated, IsReached-translated, point_behind-alike}
+use Rattle.lx_regs.specs.WrittenBeside.{IsWrittenBeside, MayInterfere, written_on_accept, written_on_edge, written_on_leaving}
 use Rattle.lx_regs.specs.SharedNames.{KeepApart, renamed_accept, renamed_auto, renamed_edge, renamed_op, renamed_ops}
 use Rattle.lx_regs.proofs.Translations.RenamedEffects.{effect_of-renamed, target_of-renamed}
 use Rattle.lx_regs.proofs.Translations.RenamedWalks.{LeadAlike-renamed, keeps-edge, renamed-translation, state_at-renamed}
@@ -67,18 +68,18 @@ module _ (auto : Auto) (names : Names) (regs mregs : ℕ) (apart : KeepApart nam
 
   pub IsWrittenBeside-renamed : (held other : Held) → IsWrittenBeside auto held other
       → IsWrittenBeside answer (renamed names held) (renamed names other)
-  IsWrittenBeside-renamed held other (on_leaving point reached writes live) =
-      on_leaving point (IsReached-renamed point reached)
+  IsWrittenBeside-renamed held other (written_on_leaving point reached writes live) =
+      written_on_leaving point (IsReached-renamed point reached)
       (subst (λ (s : State). Writes s.leave (renamed names held)) (sym (state_at-renamed auto names regs mregs point))
       (Writes-renamed names (state_at auto point).leave held writes))
       (IsLiveOnLeaving-renamed point other reached live)
-  IsWrittenBeside-renamed held other (on_edge point edge reached has writes live) =
-      on_edge point (renamed_edge names edge) (IsReached-renamed point reached) (has-renamed point edge has)
+  IsWrittenBeside-renamed held other (written_on_edge point edge reached has writes live) =
+      written_on_edge point (renamed_edge names edge) (IsReached-renamed point reached) (has-renamed point edge has)
       (Writes-renamed names edge.ops held writes) (IsLiveBehind-renamed point edge other reached has live)
-  IsWrittenBeside-renamed held other (on_accept point accept reached accepts writes has) =
-      on_accept point (renamed_accept names accept) (IsReached-renamed point reached) (accepts-renamed point accept accepts)
+  IsWrittenBeside-renamed held other (written_on_accept point accept reached accepts writes has) =
+      written_on_accept point (renamed_accept names accept) (IsReached-renamed point reached) (accepts-renamed point accept accepts)
       (Writes-renamed names accept.ops held writes) (Contains-map (renamed names) accept.values other has)
 
-  pub Interfere-renamed : (held other : Held) → Interfere auto held other → Interfere answer (renamed names held) (renamed names other)
-  Interfere-renamed held other (inl beside) = inl (IsWrittenBeside-renamed held other beside)
-  Interfere-renamed held other (inr beside) = inr (IsWrittenBeside-renamed other held beside)
+  pub MayInterfere-renamed : (held other : Held) → MayInterfere auto held other → MayInterfere answer (renamed names held) (renamed names other)
+  MayInterfere-renamed held other (inl beside) = inl (IsWrittenBeside-renamed held other beside)
+  MayInterfere-renamed held other (inr beside) = inr (IsWrittenBeside-renamed other held beside)

@@ -10,10 +10,11 @@ use Rattle.lx_auto.specs.declared.automaton.Held.{Held}
 use Rattle.lx_auto.specs.declared.automaton.State.{State}
 use Rattle.lx_auto.specs.Automaton.{state_of}
 use Rattle.lx_auto.specs.Effects.{Names, effect_of, effect_of_both, renamed, renamed_effect}
-use Rattle.lx_auto.specs.Live.{IsLiveBehind, IsLiveOnLeaving, on_accept, on_edge, on_leaving}
+use Rattle.lx_auto.specs.Live.{IsLiveBehind, IsLiveOnLeaving}
 use Rattle.lx_auto.specs.Points.{Point, IsReached, state_at, values_left, values_of}
 use Rattle.lx_auto.specs.Translations.{AcceptAlike, AllLeadAlike, IsTranslation, LeadAlike}
 use Rattle.lx_auto.proofs.SameLists.{Contains-later, map-where}
+use Rattle.lx_regs.specs.WrittenBeside.{written_on_accept, written_on_edge, written_on_leaving}
 use Rattle.lx_regs.specs.SharedNames.{KeepApart, renamed_accept, renamed_auto, renamed_edge, renamed_ops, renamed_state}
 use Rattle.lx_regs.proofs.Translations.RenamedEffects.{KeepsFrom, effect_of-renamed, effect_of_both-renamed}
 
@@ -41,15 +42,15 @@ module _ (auto : Auto) (names : Names) (regs mregs : ℕ) where
 
   module _ (apart : KeepApart names auto) (point : Point) (reached : IsReached auto point) where
     pub keeps-leave : (held : Held) → IsLiveOnLeaving auto point held → KeepsFrom names (state_at auto point).leave held
-    keeps-leave held live other writes same = apart other held (on_leaving point reached writes live) same
+    keeps-leave held live other writes same = apart other held (written_on_leaving point reached writes live) same
 
     pub keeps-edge : (edge : Edge) (held : Held) → Contains (state_at auto point).edges edge → IsLiveBehind auto point edge held
         → KeepsFrom names edge.ops held
-    keeps-edge edge held has live other writes same = apart other held (on_edge point edge reached has writes live) same
+    keeps-edge edge held has live other writes same = apart other held (written_on_edge point edge reached has writes live) same
 
     pub keeps-accept : (accept : Accept) (held : Held) → (state_at auto point).accept ≡ Some accept → Contains accept.values held
         → KeepsFrom names accept.ops held
-    keeps-accept accept held accepts has other writes same = apart other held (on_accept point accept reached accepts writes has) same
+    keeps-accept accept held accepts has other writes same = apart other held (written_on_accept point accept reached accepts writes has) same
 
     AcceptAlike-renamed : (accept : Option Accept) → (state_at auto point).accept ≡ accept
         → AcceptAlike names accept (option_map (renamed_accept names) accept)

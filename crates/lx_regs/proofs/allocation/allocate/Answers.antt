@@ -16,13 +16,13 @@ returns-clause-run c =
     let read = c.in_ok-read.read in
     let chosen = c.in_ok-chosen.chosen in
     let live = c.in_ok-live.live in
-    IfOk-then _ _ c.share_registers.result
+    IfOk-then _ _ c.share_all.result
     (λ answer run. same_run-through answer merged given
     (same_run-through answer read merged
     (same_run-through answer chosen read
     (same_run-through answer live chosen run c.in_ok-live.ensures.run) c.in_ok-chosen.ensures.run) c.in_ok-read.ensures.run)
     c.in_ok-merged.ensures.run)
-    c.share_registers.ensures.run
+    c.share_all.ensures.run
 
 pub returns-clause-kept : goal.returns-clause-kept
 returns-clause-kept c =
@@ -31,9 +31,9 @@ returns-clause-kept c =
     let read = c.in_ok-read.read in
     let chosen = c.in_ok-chosen.chosen in
     let live = c.in_ok-live.live in
-    IfOk-then _ _ c.share_registers.result
+    IfOk-then _ _ c.share_all.result
     (λ answer kept. KeepsShape-through given merged answer c.in_ok-merged.ensures.kept
     (KeepsShape-through merged read answer c.in_ok-read.ensures.kept
     (KeepsShape-through read chosen answer c.in_ok-chosen.ensures.kept
     (KeepsShape-through chosen live answer c.in_ok-live.ensures.kept kept))))
-    c.share_registers.ensures.kept
+    c.share_all.ensures.kept
