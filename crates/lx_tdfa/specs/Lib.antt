@@ -5,6 +5,7 @@ pub mod Graph
 pub mod KernelStates
 pub mod Kernels
 pub mod Making
+pub mod Marks
 pub mod Promise
 pub mod Registers
 pub mod Searches

@@ -6,6 +6,7 @@ mod cuts;
 mod edges;
 mod kernels;
 pub mod laws;
+mod marks;
 mod operations;
 mod states;
 mod steps;

@@ -2,6 +2,7 @@
 ghost use Rattle.std.specs.Prelude.{◌≡◌, ◌+◌, ◌*◌, ◌<◌, ◌≤◌, ◌^◌, ◌∷◌, [], ◌++◌, All, OnOk, None, Some, length, suc, option_map, ℕ};
 ghost use Rattle.lx_tdfa.specs.Registers.{all_tag_ops, copy_ops, first_of, history_copy_ops, history_mark_ops, last_mark, single_ops, tag_ops};
 
+use crate::marks::{gather_marks, mark_at};
 use lx_auto::{Op, Ops};
 use lx_base::Memory;
 use lx_tnfa::Event;
@@ -12,21 +13,6 @@ pub(crate) struct Transfer {
     pub is_first: bool,
     pub source: u32,
     pub target: u32,
-}
-
-/// What events do last to a tag: whether they set it, if they do anything.
-fn last_mark(events: &[Event], tag: u32) -> Option<bool>
-    ensures { result ≡ last_mark tag events.now None }
-{
-    let mut mark = None;
-    for event in events {
-        match event {
-            Event::Set(other) if *other == tag => mark = Some(true),
-            Event::Unset(other) if *other == tag => mark = Some(false),
-            Event::Set(_) | Event::Unset(_) => {}
-        }
-    }
-    mark
 }
 
 /// Appends the operation that gives a register its value after a step, where it does not hold that already.
@@ -71,28 +57,32 @@ fn push_marks(ops: &mut Ops, target: u32, tag: u32, events: &[Event]) -> Result<
     Ok(())
 }
 
-/// Appends the operations of one tag, of which `many` tells the kind.
+/// Appends the operations of one tag, of which `many` tells the kind, and `mark` what events do last to it.
 fn push_tag(
     ops: &mut Ops,
     transfer: Transfer,
     tag: u32,
     events: &[Event],
+    mark: Option<bool>,
     many: bool,
 ) -> Result<(), Memory>
-    requires { (transfer.source + 1 < 2 ^ 32) × (transfer.target + 1 < 2 ^ 32) }
+    requires within { (transfer.source + 1 < 2 ^ 32) × (transfer.target + 1 < 2 ^ 32) }
+    requires last { mark ≡ last_mark tag events.now None }
     ensures { OnOk result (ops.new ≡ ops.old ++ tag_ops transfer.is_first transfer.source transfer.target tag events.now many) }
 {
     if many {
         push_history(ops, transfer)?;
         push_marks(ops, transfer.target, tag, events)
     } else {
-        push_single(ops, transfer, last_mark(events, tag))
+        push_single(ops, transfer, mark)
     }
 }
 
-/// Appends the operations of all tags of a rule, of these kinds; `transfer` is that of its first tag.
+/// Appends the operations of all tags of a rule, of these kinds; `transfer` is that of its first tag. In `marks` it is gathered what
+/// events do last to tags.
 pub(crate) fn push_tags(
     ops: &mut Ops,
+    marks: &mut Vec<Option<bool>>,
     transfer: Transfer,
     events: &[Event],
     kinds: &[bool],
@@ -100,6 +90,7 @@ pub(crate) fn push_tags(
     requires { (transfer.source + length kinds.now < 2 ^ 32) × (transfer.target + length kinds.now < 2 ^ 32) }
     ensures { OnOk result (ops.new ≡ ops.old ++ all_tag_ops transfer.is_first transfer.source transfer.target 0 events.now kinds.now) }
 {
+    gather_marks(marks, events, kinds.len())?;
     for (tag, many) in kinds.iter().enumerate() {
         let tag = tag as u32;
         let transfer = Transfer {
@@ -107,7 +98,8 @@ pub(crate) fn push_tags(
             source: transfer.source + tag,
             target: transfer.target + tag,
         };
-        push_tag(ops, transfer, tag, events, *many)?;
+        let mark = mark_at(marks.as_slice(), tag);
+        push_tag(ops, transfer, tag, events, mark, *many)?;
     }
     Ok(())
 }

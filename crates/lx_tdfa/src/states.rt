@@ -65,6 +65,7 @@ impl<'a> Source<'a> {
         ensures { IfOk result (λ ops. ops ≡ step_ops self.now.t.now (widest self.now.t.now.rules) is_first 0 (map seen_step steps.now)) }
     {
         let mut ops = Ops::new(self.alloc);
+        let mut marks = Vec::new(self.alloc);
         for (index, step) in steps.iter().enumerate() {
             let transfer = Transfer {
                 is_first,
@@ -73,6 +74,7 @@ impl<'a> Source<'a> {
             };
             push_tags(
                 &mut ops,
+                &mut marks,
                 transfer,
                 step.reach.events.as_slice(),
                 self.t.tags_at(step.to.part),
@@ -88,6 +90,7 @@ impl<'a> Source<'a> {
         ensures { IfOk result (λ ops. ops ≡ ending_ops self.now.t.now (widest self.now.t.now.rules) is_first (seen_ending ending.entry)) }
     {
         let mut ops = Ops::new(self.alloc);
+        let mut marks = Vec::new(self.alloc);
         let transfer = Transfer {
             is_first,
             source: self.first_of(ending.reach.from as usize),
@@ -95,6 +98,7 @@ impl<'a> Source<'a> {
         };
         push_tags(
             &mut ops,
+            &mut marks,
             transfer,
             ending.reach.events.as_slice(),
             self.t.tags_of(ending.rule),
