@@ -13,7 +13,7 @@ use std::alloc::Global;
 /// The most rounds.
 const ROUNDS: usize = 20;
 
-/// What an operation does to the register that it writes, where those that it reads are told by their classes.
+/// What an operation does to the register that it writes, where those that it reads are told by their signs.
 #[derive(Clone, Copy, PartialEq, Eq, Hash)]
 enum Deed {
     Offset,
@@ -23,7 +23,7 @@ enum Deed {
     History(usize),
 }
 
-/// What a register was told by before an operation, and what that does to it.
+/// The sign of a register before an operation, and what that does to it.
 #[derive(Clone, Copy, PartialEq, Eq, Hash)]
 struct Step {
     sign: usize,
@@ -141,11 +141,11 @@ impl Partitions {
             .saturating_add(self.mregs.firsts.len())
     }
 
-    /// Whether of the registers that are written at most half are left where those of a class are one.
-    fn is_half(&self) -> bool {
+    /// Whether of the registers that are written at most three quarters are left where those of a class are one.
+    fn are_few(&self) -> bool {
         let written = self.regs.written.saturating_add(self.mregs.written);
         let kept = self.regs.kept.saturating_add(self.mregs.kept);
-        0 < kept && kept <= written / 2
+        0 < kept && kept.saturating_mul(4) <= written.saturating_mul(3)
     }
 
     /// The class of a register.
@@ -168,18 +168,6 @@ impl Partitions {
             None => false,
         }
     }
-
-    /// What an operation does.
-    fn deed(&self, op: Op) -> Deed {
-        match op {
-            Op::Here(_) => Deed::Offset,
-            Op::Null(_) => Deed::Nothing,
-            Op::Copy(_, source) => Deed::Copy(self.class(Held::Reg(source))),
-            Op::MHere(_) => Deed::Mark(true),
-            Op::MNull(_) => Deed::Mark(false),
-            Op::MCopy(_, source) => Deed::History(self.class(Held::MReg(source))),
-        }
-    }
 }
 
 /// Puts a sign at a place, if it is there.
@@ -194,7 +182,7 @@ struct Round<'a> {
     alloc: Global,
     /// The classes before the round.
     partitions: &'a Partitions,
-    /// What registers are told by so far.
+    /// The signs of registers, by which they are told so far. Those of one sign are of one class.
     regs: Vec<usize>,
     mregs: Vec<usize>,
     /// More than all signs that were given before the current list.
@@ -214,7 +202,7 @@ impl Drop for Round<'_> {
 }
 
 impl<'a> Round<'a> {
-    /// What a register is told by.
+    /// The sign of a register.
     fn sign(&self, held: Held) -> usize {
         match held {
             Held::Reg(reg) => at(self.regs.as_slice(), reg as usize),
@@ -230,17 +218,45 @@ impl<'a> Round<'a> {
         }
     }
 
-    /// Tells registers apart by a list.
-    fn split(&mut self, ops: &[Op]) -> Result<(), Memory> {
-        let mut steps = IndexSet::new(self.alloc);
+    /// What an operation does.
+    fn deed(&self, op: Op) -> Deed {
+        match op {
+            Op::Here(_) => Deed::Offset,
+            Op::Null(_) => Deed::Nothing,
+            Op::Copy(_, source) => Deed::Copy(self.sign(Held::Reg(source))),
+            Op::MHere(_) => Deed::Mark(true),
+            Op::MNull(_) => Deed::Mark(false),
+            Op::MCopy(_, source) => Deed::History(self.sign(Held::MReg(source))),
+        }
+    }
+
+    /// What the operations of a list do.
+    fn deeds(&self, ops: &[Op]) -> Result<Vec<Deed>, Memory> {
+        let mut deeds = Vec::with_capacity(self.alloc, ops.len())?;
         for op in ops {
-            let target = target_of(*op);
-            let step = Step {
-                sign: self.sign(target),
-                deed: self.partitions.deed(*op),
-            };
-            let (place, _) = steps.insert_full(step)?;
-            self.set(target, self.next.saturating_add(place));
+            deeds.push(self.deed(*op))?;
+        }
+        Ok(deeds)
+    }
+
+    /// Gives the target of an operation the sign of what was done to it.
+    fn note(&mut self, steps: &mut IndexSet<Step>, op: Op, deed: Deed) -> Result<(), Memory> {
+        let target = target_of(op);
+        let sign = self.sign(target);
+        let (place, _) = steps.insert_full(Step { sign, deed })?;
+        self.set(target, self.next.saturating_add(place));
+        Ok(())
+    }
+
+    /// Tells registers apart by a list. The signs of what it reads are read before any of it is noted, so that what was told by the lists
+    /// before counts in this round.
+    fn split(&mut self, ops: &[Op]) -> Result<(), Memory> {
+        let deeds = self.deeds(ops)?;
+        let mut steps = IndexSet::with_capacity(self.alloc, ops.len())?;
+        for (place, op) in ops.iter().enumerate() {
+            if let Some(deed) = deeds.get(place) {
+                self.note(&mut steps, *op, *deed)?;
+            }
         }
         self.next = self.next.saturating_add(steps.len());
         Ok(())
@@ -299,13 +315,13 @@ fn classes_behind(
     round.classes()
 }
 
-/// Splits classes until they are told. The answer is whether that is so soon, and at most half of what is written is left.
+/// Splits classes until they are told. The answer is whether that is so soon, and at most three quarters of what is written are left.
 fn settle(alloc: Global, auto: &Auto, partitions: &mut Partitions) -> Result<bool, Memory> {
     for _ in 0..ROUNDS {
         let count = partitions.count();
         let next = classes_behind(alloc, auto, partitions)?;
         *partitions = next;
-        if !partitions.is_half() {
+        if !partitions.are_few() {
             return Ok(false);
         }
         if partitions.count() == count {
@@ -328,7 +344,8 @@ fn one_class_each(alloc: Global, auto: &Auto) -> Result<Partitions, Memory> {
     Ok(Partitions { regs, mregs })
 }
 
-/// The registers in classes of which the members hold the same, if rounds tell them soon and at most half of what is written is left.
+/// The registers in classes of which the members hold the same, if rounds tell them soon and at most three quarters of what is written
+/// are left.
 pub(crate) fn partitions_of(alloc: Global, auto: &Auto) -> Result<Option<Partitions>, Memory> {
     let mut partitions = one_class_each(alloc, auto)?;
     if settle(alloc, auto, &mut partitions)? {
