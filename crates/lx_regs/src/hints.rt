@@ -1,9 +1,10 @@
 //! The values to which registers go: each value of what is accepted somewhere has one name at all states, and what goes to such a
 //! value later on does best to be there already.
 use crate::alike::Alike;
-use crate::flows::{Flow, Flows, Move, Source};
+use crate::flows::Flows;
 use crate::name_tables::NameTable;
 use crate::order::Met;
+use crate::ways::{Links, Way, ways_of};
 use indexmap::IndexMap;
 use lx_auto::{Auto, Held};
 use lx_base::Memory;
@@ -20,8 +21,6 @@ pub(crate) struct Hints {
     pub(crate) free_mregs: u32,
     /// The value to which each slot goes, by its name, if it is known.
     pub(crate) of: Vec<Option<Held>>,
-    /// Of how many slots it is known.
-    known: usize,
 }
 
 impl Drop for Hints {
@@ -32,7 +31,6 @@ impl Drop for Hints {
             free_regs: _,
             free_mregs: _,
             of: _,
-            known: _,
         } = self;
     }
 }
@@ -70,7 +68,6 @@ impl Hints {
             free_regs: _,
             free_mregs: _,
             of: _,
-            known: _,
         } = self;
         table
     }
@@ -123,55 +120,81 @@ impl Hints {
         }
     }
 
-    /// What comes to a slot with a hint gives one to the slot from which it comes.
-    fn hint_back(&mut self, flows: &Flows, step: Move) {
-        if let Source::Slot(source) = step.source {
-            let hint = self.hint(flows, step.target);
-            if let Some(kept) = self.of.get_mut(source)
-                && kept.is_none()
-                && hint.is_some()
-            {
-                *kept = hint;
-                self.known = self.known.saturating_add(1);
-            }
+    /// Whether it is known to which value a slot goes, by what comes from it.
+    fn is_known(&self, place: usize) -> bool {
+        held_at(self.of.as_slice(), place).is_some()
+    }
+
+    /// What comes to a slot with a hint gives one to the slot from which it comes, if that has none. The answer is whether it does.
+    fn hint_back(&mut self, flows: &Flows, way: Way) -> bool {
+        let hint = self.hint(flows, way.target);
+        if let Some(kept) = self.of.get_mut(way.source)
+            && kept.is_none()
+            && hint.is_some()
+        {
+            *kept = hint;
+            return true;
+        }
+        false
+    }
+
+    /// The same of all ways, each once.
+    fn hint_ways(&mut self, flows: &Flows, ways: &[Way]) {
+        for way in ways {
+            let _ = self.hint_back(flows, *way);
         }
     }
 
-    /// The same of a list.
-    fn hint_back_all(&mut self, flows: &Flows, moves: &[Move]) {
-        for step in moves {
-            self.hint_back(flows, *step);
-        }
-    }
-
-    /// The same of all edges out of a state.
-    fn hint_back_edges(&mut self, flows: &Flows, edges: &[Flow]) {
-        for flow in edges {
-            self.hint_back_all(flows, flow.moves.as_slice());
-        }
-    }
-
-    /// The hints, as far as a hundred rounds bring them.
-    fn hint_rounds(&mut self, flows: &Flows, order: &[Met]) {
-        for _ in 0..100 {
-            let known = self.known;
-            self.hint_round(flows, order);
-            if self.known == known {
-                return;
+    /// The same again. What gets a hint is noted, and what has none so far is linked to what comes from it.
+    fn link_ways(&mut self, flows: &Flows, ways: &[Way], links: &mut Links) -> Result<(), Memory> {
+        for way in ways {
+            if self.hint_back(flows, *way) {
+                links.note(way.source)?;
+            } else if !self.is_known(way.source) {
+                links.link(*way)?;
             }
         }
+        Ok(())
     }
 
-    /// The hints, as far as a round over all states in the opposite order brings them.
-    fn hint_round(&mut self, flows: &Flows, order: &[Met]) {
-        for met in order.iter().rev() {
-            if let Some(moves) = flows.accepts.get(met.state) {
-                self.hint_back_all(flows, moves.as_slice());
+    /// Slots that are linked to a slot with a hint get one.
+    fn hint_linked(
+        &mut self,
+        flows: &Flows,
+        links: &mut Links,
+        target: usize,
+    ) -> Result<(), Memory> {
+        let mut link = links.first(target);
+        for _ in 0..links.len() {
+            let Some(way) = links.way(link) else {
+                return Ok(());
+            };
+            if self.hint_back(flows, way) {
+                links.note(way.source)?;
             }
-            if let Some(edges) = flows.edges.get(met.state) {
-                self.hint_back_edges(flows, edges.as_slice());
-            }
+            link = links.next(link);
         }
+        Ok(())
+    }
+
+    /// The same of all that got a hint, and get one so, in turn. No slot gets a hint twice.
+    fn hint_along(&mut self, flows: &Flows, links: &mut Links) -> Result<(), Memory> {
+        for turn in 0..flows.slots.len() {
+            let Some(target) = links.noted(turn) else {
+                return Ok(());
+            };
+            self.hint_linked(flows, links, target)?;
+        }
+        Ok(())
+    }
+
+    /// The hints: those that two walks over all states in the opposite order bring, then what follows from them.
+    fn hint_all(&mut self, alloc: Global, flows: &Flows, order: &[Met]) -> Result<(), Memory> {
+        let ways = ways_of(alloc, flows, order)?;
+        self.hint_ways(flows, ways.as_slice());
+        let mut links = Links::new(alloc, flows.slots.len())?;
+        self.link_ways(flows, ways.as_slice(), &mut links)?;
+        self.hint_along(flows, &mut links)
     }
 }
 
@@ -193,11 +216,10 @@ fn no_hints(alloc: Global, count: usize) -> Result<Hints, Memory> {
         free_regs: 0,
         free_mregs: 0,
         of,
-        known: 0,
     })
 }
 
-/// The values to which slots go, as far as a hundred rounds tell.
+/// The values to which slots go.
 pub(crate) fn hints_of(
     alloc: Global,
     given: &Auto,
@@ -207,6 +229,6 @@ pub(crate) fn hints_of(
 ) -> Result<Hints, Memory> {
     let mut hints = no_hints(alloc, flows.slots.len())?;
     hints.fix_values(given, alike)?;
-    hints.hint_rounds(flows, order);
+    hints.hint_all(alloc, flows, order)?;
     Ok(hints)
 }

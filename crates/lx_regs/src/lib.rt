@@ -43,6 +43,7 @@ mod shares;
 mod sharing;
 mod sharing_rounds;
 mod translation_test;
+mod ways;
 mod webs;
 mod written;
 
