@@ -7,5 +7,6 @@ pub mod KeptEdges
 pub mod KeptOps
 pub mod KeptSteps
 pub mod KeptUsages
+pub mod OnceWritten
 pub mod ReadLists
 pub mod UnsetRegisters

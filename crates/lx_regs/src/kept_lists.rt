@@ -1,16 +1,18 @@
 //! Lists without the operations of which the targets are not wanted, and what they read.
-ghost use Rattle.std.specs.Prelude.{◌≡◌, ◌∷◌, ◌&&◌, ◌||◌, List, not, reverse, IfOk, OnOk};
+ghost use Rattle.std.specs.Prelude.{◌≡◌, ◌∷◌, ◌&&◌, ◌||◌, List, not, true, reverse, IfOk, OnOk};
 ghost use Rattle.std.specs.List.{list_any};
-ghost use Rattle.lx_auto.specs.Effects.{is_overwritten, target_of};
+ghost use Rattle.lx_auto.specs.Effects.{copies_itself, is_overwritten, target_of};
 ghost use Rattle.lx_auto.specs.declared.automaton.Held.{Held as HeldValue};
 ghost use Rattle.lx_auto.specs.declared.ops.Op.{Op as OpValue};
 ghost use Rattle.lx_regs.specs.Dead.{KeepsWanted};
 ghost use Rattle.lx_regs.specs.HeldSets.{Has, has, is_same};
 ghost use Rattle.lx_regs.specs.IdleOps.{is_idle};
 ghost use Rattle.lx_regs.specs.KeptLists.{AreWritten, IsListed, copies_from, is_read, overwrites, writes};
+ghost use Rattle.lx_regs.specs.OrderedOps.{Ascend};
 
 use crate::held_sets::HeldSet;
 use crate::idle_ops::copies_itself;
+use crate::ordered::ascend;
 use lx_auto::{Held, Op, Ops};
 use lx_base::Memory;
 use std::alloc::Global;
@@ -83,9 +85,41 @@ fn ops_of(alloc: Global, items: &[Op]) -> Result<Ops, Memory>
     Ok(ops)
 }
 
+/// Whether an operation writes what is in a set and does not copy a register to itself.
+fn serves(wanted: &HeldSet, op: Op) -> bool
+    ensures { result ≡ (has wanted.now (target_of op) && not (copies_itself op)) }
+{
+    wanted.contains(target_of(op)) & !copies_itself(op)
+}
+
+/// The operations of a list that write what is in a set, but for copies of registers to themselves, where none takes away what an earlier
+/// one did.
+fn kept_in_order(alloc: Global, ops: &[Op], wanted: &HeldSet) -> Result<Ops, Memory>
+    requires { Ascend ops.now }
+    ensures { IfOk result (KeepsWanted (Has wanted.now) ops.now) }
+{
+    let mut kept = Ops::new(alloc);
+    for op in ops {
+        if serves(wanted, *op) {
+            kept.push(*op)?;
+        }
+    }
+    Ok(kept)
+}
+
 /// The operations of a list that write what is in a set, but for those of which a later one takes away what they did, and for copies of
 /// registers to themselves.
 pub(crate) fn kept_by(alloc: Global, ops: &[Op], wanted: &HeldSet) -> Result<Ops, Memory>
+    ensures { IfOk result (KeepsWanted (Has wanted.now) ops.now) }
+{
+    if ascend(ops) {
+        return kept_in_order(alloc, ops, wanted);
+    }
+    kept_from_end(alloc, ops, wanted)
+}
+
+/// The same of a list in any order.
+fn kept_from_end(alloc: Global, ops: &[Op], wanted: &HeldSet) -> Result<Ops, Memory>
     ensures { IfOk result (KeepsWanted (Has wanted.now) ops.now) }
 {
     let mut written = HeldSet::new(alloc);
@@ -120,13 +154,35 @@ pub(crate) fn targets_of(alloc: Global, ops: &[Op]) -> Result<HeldSet, Memory>
     Ok(targets)
 }
 
+/// The set of what a list has.
+fn set_of(alloc: Global, items: &[Held]) -> Result<HeldSet, Memory>
+    ensures { IfOk result (λ set. (held : HeldValue) → has set held ≡ list_any (is_same held) items.now) }
+{
+    let mut set = HeldSet::new(alloc);
+    for held in items {
+        set.insert(*held)?;
+    }
+    Ok(set)
+}
+
+/// A set that tells of what a list writes whether it is wanted.
+fn wanted_of(alloc: Global, ops: &[Op], wanted: &[Held]) -> Result<HeldSet, Memory>
+    ensures { IfOk result (λ set. (held : HeldValue) → list_any (writes held) ops.now ≡ true
+        → has set held ≡ list_any (is_same held) wanted.now) }
+{
+    if wanted.len() <= ops.len() {
+        return set_of(alloc, wanted);
+    }
+    let targets = targets_of(alloc, ops)?;
+    HeldSet::of_both(alloc, wanted, &targets)
+}
+
 /// The operations of a list that write what is wanted, but for those of which a later one takes away what they did, and for copies of
 /// registers to themselves.
 pub(crate) fn kept_ops(alloc: Global, ops: &[Op], wanted: &[Held]) -> Result<Ops, Memory>
     ensures { IfOk result (KeepsWanted (IsListed wanted.now) ops.now) }
 {
-    let targets = targets_of(alloc, ops)?;
-    let wanted = HeldSet::of_both(alloc, wanted, &targets)?;
+    let wanted = wanted_of(alloc, ops, wanted)?;
     let kept = kept_by(alloc, ops, &wanted)?;
     Ok(kept)
 }

@@ -44,18 +44,15 @@ writes-target (first ∷ ops) op (suc place, within, is) =
     or-either (writes (target_of op) first) (list_any (writes (target_of op)) ops) (inr (writes-target ops op (place, omega arith, is)))
 
 -- what is wanted, of the targets of a list
-pub listed-keeps : (ops kept : List Op) (live : List Held) (wanted targets : HeldSet)
-    → ((held : Held) → has targets held ≡ list_any (writes held) ops)
-    → ((held : Held) → has wanted held ≡ (has targets held && list_any (is_same held) live)) → KeepsWanted (Has wanted) ops kept
-    → KeepsWanted (IsListed live) ops kept
-listed-keeps ops kept live wanted targets all both keeps =
-    KeepsWanted-alike (Has wanted) (IsListed live) ops kept (λ op has_op is. sym (same op has_op) ∙ is)
-    (λ op has_op is. same op has_op ∙ is) keeps
+pub listed-keeps : (ops kept : List Op) (live : List Held) (wanted : HeldSet)
+    → ((held : Held) → list_any (writes held) ops ≡ true → has wanted held ≡ list_any (is_same held) live)
+    → KeepsWanted (Has wanted) ops kept → KeepsWanted (IsListed live) ops kept
+listed-keeps ops kept live wanted same keeps =
+    KeepsWanted-alike (Has wanted) (IsListed live) ops kept (λ op has_op is. sym (at op has_op) ∙ is)
+    (λ op has_op is. at op has_op ∙ is) keeps
   where
-    same : (op : Op) → Contains ops op → has wanted (target_of op) ≡ list_any (is_same (target_of op)) live
-    same op has_op =
-        both (target_of op)
-        ∙ ap (λ b. b && list_any (is_same (target_of op)) live) (all (target_of op) ∙ writes-target ops op has_op)
+    at : (op : Op) → Contains ops op → has wanted (target_of op) ≡ list_any (is_same (target_of op)) live
+    at op has_op = same (target_of op) (writes-target ops op has_op)
 
 module _ (auto : Auto) (state : ℕ) where
   -- ---- one edge

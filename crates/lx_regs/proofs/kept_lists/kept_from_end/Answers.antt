@@ -6,7 +6,7 @@ use Rattle.lx_auto.specs.declared.ops.Op.TheVariants.{Here}
 use Rattle.lx_regs.specs.Dead.{KeepsWanted, ends}
 use Rattle.lx_regs.specs.HeldSets.{Has}
 use Rattle.lx_regs.specs.KeptLists.{AreWritten, overwrites}
-use Rattle.lx_regs.proofs.kept_lists.kept_by.Goals as goal
+use Rattle.lx_regs.proofs.kept_lists.kept_from_end.Goals as goal
 
 pub loop-place-init : goal.loop-place-init
 loop-place-init c =

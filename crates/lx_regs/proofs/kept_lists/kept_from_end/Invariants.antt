@@ -2,7 +2,7 @@ use Rattle.std.proofs.Common.{◌≤◌, drop, length, reverse}
 use Rattle.lx_regs.specs.Dead.{KeepsWanted}
 use Rattle.lx_regs.specs.HeldSets.{Has}
 use Rattle.lx_regs.specs.KeptLists.{AreWritten}
-use Rattle.lx_regs.proofs.kept_lists.kept_by.Given as goal
+use Rattle.lx_regs.proofs.kept_lists.kept_from_end.Given as goal
 
 abbrev pub invariant-loop-place : goal.invariant-loop-place
 invariant-loop-place l = record {
