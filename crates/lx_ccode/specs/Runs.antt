@@ -5,7 +5,7 @@ use Rattle.lx_ccode.specs.declared.piece.CondCase.{CondCase}
 use Rattle.lx_ccode.specs.declared.piece.Piece.{Piece}
 use Rattle.lx_base.specs.Letters.{equal_words}
 use Rattle.lx_ccode.specs.Statements.{statement_count}
-use Rattle.lx_ccode.specs.Machine.{Value, Machine, Answer, units_of_answers, Outcome, stuck, looped, unanswered, Next, goes_on, ends, code_at, step}
+use Rattle.lx_ccode.specs.Machine.{Value, Machine, Answer, units_of_answers, Outcome, stuck, looped, Next, goes_on, ends, code_at, step}
 use Rattle.lx_ccode.specs.Schedules.{Schedule}
 
 -- what a run tells: its outcome, and then the cursor, the condition, and what was given in the match
@@ -79,10 +79,6 @@ module _ (piece : Piece) (stream : List ℕ) (start : ℕ) where
   unfoldable pub run_of : (cond : List ℕ) → Schedule → Ended
   run_of cond schedule =
       run_in (code_at piece.blocks (entry_block piece.conds cond)) (fresh_machine start schedule.first cond) schedule.answers
-
-  -- the schedule answers each refill that the match asks
-  abbrev pub AnswersAll : (cond : List ℕ) → Schedule → Type 0
-  AnswersAll cond schedule = (run_of cond schedule).outcome ≡ unanswered → ⊥
 
   -- a run step by step: it ends with a step, or by the count of a loop, or goes on; stuck where no statement is left
   pub data IsRun : (steps : ℕ) → List Stmt → Machine → List Answer → Ended → Type 0 where
