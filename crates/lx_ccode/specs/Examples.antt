@@ -108,6 +108,17 @@ copying_example = record context_example {
   blocks = block (Set 1 ∷ Skip ∷ Set 2 ∷ Copy 1 2 ∷ Copy 2 1 ∷ Tag (codes "s") false 1 ∷ Tag (codes "t") false 2 ∷ Leave ∷ []) ∷ [];
 }
 
+-- the rule for the empty word, which reads nothing
+abbrev pub lone_example : Piece
+lone_example = record context_example { blocks = block (Code 1 None (codes "{ return 1; }") ∷ []) ∷ []; ctx = false }
+
+-- one rule at the end of the units and another one before, by a question alone
+abbrev pub asking_example : Piece
+asking_example = record context_example {
+  blocks = block (IfEnd 1 ∷ Code 1 None (codes "{ return 1; }") ∷ []) ∷ block (Code 2 None (codes "{ return 2; }") ∷ []) ∷ [];
+  ctx = false;
+}
+
 -- the heads of the examples that have every statement
 abbrev pub context_head : (custom : Bool) → Head
 context_head custom = record { format = Two; custom = custom; enc = Utf8; mode = mode.Plain; regs = 2; mregs = 4; states = 0 }

@@ -2,7 +2,7 @@
 use Rattle.std.specs.Prelude.{◌≡◌, ℕ, ◌+◌, ◌≤◌, List, [], ◌∷◌, map, length, Bool, true, false}
 use Rattle.std.specs.List.{list_any}
 use Rattle.lx_ccode.specs.declared.piece.Piece.{Piece}
-use Rattle.lx_ccode.specs.Statements.{all_statements, is_refill, is_state}
+use Rattle.lx_ccode.specs.Statements.{all_statements, is_reading, is_refill, is_state}
 use Rattle.lx_ccode.specs.Machine.{Refill, more, no_more, Answer, refilled, left}
 
 -- how many units of the stream were added before the match began, and the answers to its refills
@@ -63,11 +63,15 @@ module _ (units start : ℕ) (states : Bool) where
       (buffer.closed ≡ false) × (states ≡ true) × (1 ≤ length refills) × AreLegalRefills buffer refills
       × AreLegalAnswers (after_refills buffer refills) answers
 
+-- it reads units, and never asks for a refill
+abbrev pub ReadsUnasked : Piece → Type 0
+ReadsUnasked piece = (list_any is_reading (all_statements piece.blocks) ≡ true) × (list_any is_refill (all_statements piece.blocks) ≡ false)
+
 -- what the manual asks of the one who fills the buffer, for a piece on a stream of so many units and a match from this start
 pub record IsLegal (piece : Piece) (units start : ℕ) (schedule : Schedule) : Type 0 where
   -- the units before the start were added
   pub from_start : start ≤ schedule.first
   pub within : schedule.first ≤ units
-  -- a piece that never asks gets the whole stream first
-  pub whole : list_any is_refill (all_statements piece.blocks) ≡ false → schedule.first ≡ units
+  -- a piece that reads and never asks gets the whole stream first
+  pub whole : ReadsUnasked piece → schedule.first ≡ units
   pub answers : AreLegalAnswers units start (list_any is_state (all_statements piece.blocks)) (record { base = 0; limit = schedule.first; closed = false }) schedule.answers

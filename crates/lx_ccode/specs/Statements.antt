@@ -2,7 +2,7 @@
 use Rattle.std.specs.Prelude.{ℕ, ◌+◌, Bool, true, false, List, [], ◌∷◌, ◌++◌, length, map, Option, Some, None, is_some, ◌||◌, ◌==◌}
 use Rattle.lx_base.specs.Names.{begins_table}
 use Rattle.lx_ccode.specs.declared.piece.Stmt.{Stmt}
-use Rattle.lx_ccode.specs.declared.piece.Stmt.TheVariants.{Peek, Accept, Set, Unset, Copy, IfUnit, IfIs, IfSet, IfAccept, IfEnd, State, Need, Try, Tag, End, Back, Switch, Goto, Leave, Code, Jump}
+use Rattle.lx_ccode.specs.declared.piece.Stmt.TheVariants.{Peek, Skip, Accept, Set, Unset, Copy, IfUnit, IfIs, IfSet, IfAccept, IfEnd, State, Need, Try, Tag, End, Back, Switch, Goto, Leave, Code, Jump}
 use Rattle.lx_ccode.specs.declared.piece.CodeBlock.{CodeBlock}
 
 -- the blocks as lists of statements
@@ -63,6 +63,13 @@ is_try _ = false
 -- the statement asks for a refill
 abbrev pub is_refill : Stmt → Bool
 is_refill statement = is_need statement || is_try statement
+
+-- the statement reads a unit, passes one, or asks whether one is left
+abbrev pub is_reading : Stmt → Bool
+is_reading Peek = true
+is_reading Skip = true
+is_reading (IfEnd block) = true
+is_reading _ = false
 
 -- the statement is of format 3
 abbrev pub is_of_three : Stmt → Bool

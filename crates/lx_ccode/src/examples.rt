@@ -5,7 +5,7 @@ ghost use Rattle.lx_base.specs.Names.{usual_names};
 ghost use Rattle.lx_ccode.specs.declared.piece.Stmt.TheVariants.{Leave};
 ghost use Rattle.lx_ccode.specs.Bodies.{body_piece_text};
 ghost use Rattle.lx_ccode.specs.declared.bodies.Body.TheVariants.{Empty, MaxFill, MaxGroups, Registers, Histories, Conditions, StateSwitch};
-ghost use Rattle.lx_ccode.specs.Examples.{context_example, stored_example, checked_example, spinning_example, copying_example, headed, context_head, stored_head, checked_head, tested_example, wide_example, placed_example, kept_head};
+ghost use Rattle.lx_ccode.specs.Examples.{context_example, stored_example, checked_example, spinning_example, copying_example, lone_example, asking_example, headed, context_head, stored_head, checked_head, tested_example, wide_example, placed_example, kept_head};
 ghost use Rattle.lx_ccode.specs.Machine.{by_rule, by_jump, no_rule, at_end, stuck, looped, unanswered, refilled, left, more, no_more, tag_offset, tag_history, group_count, group_end, condition};
 ghost use Rattle.lx_ccode.specs.Runs.{run_of};
 ghost use Rattle.lx_ccode.specs.Schedules.{IsLegal};
@@ -93,6 +93,9 @@ pub fn runs_of_format_three()
 pub fn schedules_of_examples()
     ensures whole { IsLegal context_example 3 0 (record { first = 3; answers = [] }) }
     ensures not_whole { IsLegal context_example 3 0 (record { first = 2; answers = [] }) → ⊥ }
+    ensures passed { IsLegal copying_example 3 0 (record { first = 2; answers = [] }) → ⊥ }
+    ensures asked { IsLegal asking_example 3 0 (record { first = 2; answers = [] }) → ⊥ }
+    ensures nothing_read { IsLegal lone_example 3 1 (record { first = 1; answers = [] }) }
     ensures left_and_closed { IsLegal stored_example 3 1 (record { first = 1; answers = left (more 1 1 ∷ []) ∷ refilled (more 0 1) ∷ left (no_more ∷ []) ∷ refilled no_more ∷ [] }) }
     ensures dropped_two { IsLegal stored_example 4 2 (record { first = 2; answers = refilled (more 2 1) ∷ [] }) }
     ensures dropped_too_many { IsLegal stored_example 3 1 (record { first = 1; answers = refilled (more 2 1) ∷ [] }) → ⊥ }
