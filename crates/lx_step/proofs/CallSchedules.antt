@@ -6,9 +6,9 @@ use Rattle.std.proofs.lemmas.List.{append-nil, append_assoc, map-append}
 use Rattle.lx_ccode.specs.declared.piece.Piece.{Piece}
 use Rattle.lx_ccode.specs.declared.piece.Stmt.{Stmt}
 use Rattle.lx_ccode.specs.Machine.{Answer, Refill, left, more, no_more, refilled}
-use Rattle.lx_ccode.specs.Schedules.{AreLegalAnswers, Buffer, IsLegal}
+use Rattle.lx_ccode.specs.Schedules.{AreLegalAnswers, Buffer, IsLegal, ReadsUnasked}
 use Rattle.lx_ccode.specs.States.{has_state, stores}
-use Rattle.lx_ccode.specs.Statements.{all_statements, is_refill, is_state, state_of}
+use Rattle.lx_ccode.specs.Statements.{all_statements, is_state, state_of}
 use Rattle.lx_window.specs.Windows.{IsFedBy, IsFormed}
 use Rattle.lx_window.specs.WindowView.{WindowView}
 use Rattle.lx_window.proofs.StreamWindows.{IsSpent-limit}
@@ -149,7 +149,7 @@ module _ (stream : List ℕ) (told : Outcome) (new : Held) (piece : Piece) (star
 
 -- the schedule of the calls is legal
 pub IsLegal-calls : (old new : Held) (before : Feed) (stream : List ℕ) (told : Outcome) (answers : List Answer) → old.left ≡ None → IsFormed before.window → IsFedBy stream before.window before.ahead
-    → AreCalls stream told new old before answers → (list_any is_refill (all_statements old.piece.blocks) ≡ false → before.window.limit ≡ length stream)
+    → AreCalls stream told new old before answers → (ReadsUnasked old.piece → before.window.limit ≡ length stream)
     → LeavesOpen false answers → IsLegal old.piece (length stream) before.window.start (schedule_of before answers)
 IsLegal-calls old new before stream told answers fresh formed fed calls whole opens = record {
   from_start = formed.ends;

@@ -4,8 +4,8 @@ ghost use Rattle.std.specs.List.{AllByRecursion, last_or, list_any};
 ghost use Rattle.lx_ccode.specs.declared.piece.Stmt.{Stmt};
 ghost use Rattle.lx_ccode.specs.Machine.{Answer, Value};
 ghost use Rattle.lx_ccode.specs.Runs.{run_of};
-ghost use Rattle.lx_ccode.specs.Schedules.{IsLegal};
-ghost use Rattle.lx_ccode.specs.Statements.{all_statements, is_refill};
+ghost use Rattle.lx_ccode.specs.Schedules.{IsLegal, ReadsUnasked};
+ghost use Rattle.lx_ccode.specs.Statements.{all_statements};
 ghost use Rattle.lx_ccode.specs.Validity.{IsValid};
 ghost use Rattle.lx_window.specs.Windows.{IsFedBy, IsFormed};
 ghost use Rattle.lx_step.specs.declared.answers.Outcome.{Outcome};
@@ -42,9 +42,9 @@ pub fn matches_reach_statements_of_the_piece()
 
 /// A match over windows of a stream that is left, and goes on in later calls, ends as a run over the whole stream does: under the
 /// schedule of the units that the first window had, the answers of the source, and the refills between the calls. The schedule
-/// is legal, where a piece that never asks had the whole stream first, and where the scanner is not left after it was said that there
-/// are no more units.
+/// is legal, where a piece that reads units and never asks had the whole stream first, and where the scanner is not left after it was said
+/// that there are no more units.
 pub fn left_matches_end_as_runs()
     ensures run { (old new : Held) (before : Feed) (stream : List ℕ) (told : Outcome) (answers : List Answer) → IsValid old.piece → old.left ≡ None → IsFormed before.window → IsFedBy stream before.window before.ahead → AreCalls stream told new old before answers → EndsAsRun old new before.window.start told (run_of old.piece stream before.window.start old.cond (schedule_of before answers)) }
-    ensures legal { (old new : Held) (before : Feed) (stream : List ℕ) (told : Outcome) (answers : List Answer) → old.left ≡ None → IsFormed before.window → IsFedBy stream before.window before.ahead → AreCalls stream told new old before answers → (list_any is_refill (all_statements old.piece.blocks) ≡ false → before.window.limit ≡ length stream) → LeavesOpen false answers → IsLegal old.piece (length stream) before.window.start (schedule_of before answers) }
+    ensures legal { (old new : Held) (before : Feed) (stream : List ℕ) (told : Outcome) (answers : List Answer) → old.left ≡ None → IsFormed before.window → IsFedBy stream before.window before.ahead → AreCalls stream told new old before answers → (ReadsUnasked old.piece → before.window.limit ≡ length stream) → LeavesOpen false answers → IsLegal old.piece (length stream) before.window.start (schedule_of before answers) }
 {}
