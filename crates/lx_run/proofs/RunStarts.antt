@@ -10,7 +10,7 @@ use Rattle.lx_ccode.specs.Statements.{all_statements, is_need, is_refill, is_sta
 use Rattle.lx_ccode.specs.Validity.{IsValid}
 use Rattle.lx_step.specs.Calls.{IsEnd}
 use Rattle.lx_step.specs.Held.{fresh}
-use Rattle.lx_run.specs.MatchRuns.{EndsAsRun, IsOfRun, MayStart, begins, follows}
+use Rattle.lx_run.specs.MatchRuns.{EndsAsRun, HoldsWhatItReads, IsOfRun, MayStart, begins, follows}
 use Rattle.lx_run.specs.Matches.{MatchEnd, match_of}
 use Rattle.lx_run.specs.Readings.{Reading}
 use Rattle.lx_run.specs.Streams.{guessed_mode, holds_all, holds_all_in, mode_by}
@@ -45,7 +45,7 @@ holds_all-headless piece none quiet =
 -- ---- the matches of a run
 
 module _ (piece : Piece) (reading : Reading) (step : 1 ≤ reading.step)
-    (supplied : list_any is_refill (all_statements piece.blocks) ≡ false → holds_all piece ≡ true) where
+    (supplied : HoldsWhatItReads piece) where
   abbrev states : Bool
   states = list_any is_state (all_statements piece.blocks)
 

@@ -3,21 +3,26 @@ use Rattle.std.specs.Prelude.{◌≡◌, ◌≤◌, ℕ, List, ◌++◌, length,
 use Rattle.std.specs.List.{list_any}
 use Rattle.lx_ccode.specs.declared.piece.Piece.{Piece}
 use Rattle.lx_ccode.specs.Runs.{Ended, run_of}
-use Rattle.lx_ccode.specs.Schedules.{IsLegal, Schedule}
-use Rattle.lx_ccode.specs.Statements.{all_statements, is_refill, is_state}
+use Rattle.lx_ccode.specs.Schedules.{IsLegal, ReadsUnasked, Schedule}
+use Rattle.lx_ccode.specs.Statements.{all_statements, is_state}
 use Rattle.lx_step.specs.Held.{Tells}
 use Rattle.lx_run.specs.Matches.{MatchEnd}
 use Rattle.lx_run.specs.Readings.{Reading}
+use Rattle.lx_run.specs.Streams.{holds_all}
 use Rattle.lx_run.specs.Texts.{Between, behind, is_followed, match_at}
 
 -- A match may start there, over a window that has the stream's units up to a limit: the scanner is left only in a piece that stores states, and a
--- piece that never asks for a refill has the whole stream.
+-- piece that reads units and never asks for a refill has the whole stream.
 pub record MayStart (piece : Piece) (reading : Reading) (start limit : ℕ) (leaving : Bool) : Type 0 where
   pub step : 1 ≤ reading.step
   pub from : start ≤ limit
   pub within : limit ≤ length reading.stream
   pub states : leaving ≡ true → list_any is_state (all_statements piece.blocks) ≡ true
-  pub whole : list_any is_refill (all_statements piece.blocks) ≡ false → limit ≡ length reading.stream
+  pub whole : ReadsUnasked piece → limit ≡ length reading.stream
+
+-- a piece that reads units and never asks for a refill has the whole stream in its window
+abbrev pub HoldsWhatItReads : Piece → Type 0
+HoldsWhatItReads piece = ReadsUnasked piece → holds_all piece ≡ true
 
 -- the run tells what the match told, with what it held and the values that it gave
 pub record IsEndOf (end : MatchEnd) (run : Ended) : Type 0 where

@@ -5,7 +5,7 @@ ghost use Rattle.lx_ccode.specs.declared.piece.Piece.{Piece};
 ghost use Rattle.lx_ccode.specs.Statements.{all_statements, is_refill};
 ghost use Rattle.lx_ccode.specs.Validity.{IsValid};
 ghost use Rattle.lx_step.specs.Calls.{IsEnd};
-ghost use Rattle.lx_run.specs.MatchRuns.{EndsAsRun, IsOfRun, MayStart};
+ghost use Rattle.lx_run.specs.MatchRuns.{EndsAsRun, HoldsWhatItReads, IsOfRun, MayStart};
 ghost use Rattle.lx_run.specs.Matches.{match_of};
 ghost use Rattle.lx_run.specs.Readings.{Reading};
 ghost use Rattle.lx_run.specs.Streams.{holds_all};
@@ -17,10 +17,10 @@ pub fn matches_end_as_runs()
     ensures { (piece : Piece) (reading : Reading) (start : ℕ) (cond : List ℕ) (limit : ℕ) (leaving : Bool) → IsValid piece → MayStart piece reading start limit leaving → IsEnd (match_of piece reading start cond limit leaving).told → EndsAsRun piece reading start cond limit (match_of piece reading start cond limit leaving) }
 {}
 
-/// Each match of a run may start, and one that ends in no full window ends as the piece's run over the whole stream does. A piece that never
-/// asks for a refill has the whole stream in its window; so it is of each such piece without a head.
+/// Each match of a run may start, and one that ends in no full window ends as the piece's run over the whole stream does. A piece that reads
+/// units and never asks for a refill is to have the whole stream in its window; each such piece without a head has.
 pub fn matches_of_runs_end_as_runs()
-    ensures start { (piece : Piece) (reading : Reading) (between : Between) → 1 ≤ reading.step → (list_any is_refill (all_statements piece.blocks) ≡ false → holds_all piece ≡ true) → IsOfRun reading (beginning piece reading) between → MayStart piece reading between.start between.limit between.leaving }
-    ensures run { (piece : Piece) (reading : Reading) (between : Between) → IsValid piece → 1 ≤ reading.step → (list_any is_refill (all_statements piece.blocks) ≡ false → holds_all piece ≡ true) → IsOfRun reading (beginning piece reading) between → IsEnd (match_at reading between).told → EndsAsRun piece reading between.start between.held.cond between.limit (match_at reading between) }
+    ensures start { (piece : Piece) (reading : Reading) (between : Between) → 1 ≤ reading.step → HoldsWhatItReads piece → IsOfRun reading (beginning piece reading) between → MayStart piece reading between.start between.limit between.leaving }
+    ensures run { (piece : Piece) (reading : Reading) (between : Between) → IsValid piece → 1 ≤ reading.step → HoldsWhatItReads piece → IsOfRun reading (beginning piece reading) between → IsEnd (match_at reading between).told → EndsAsRun piece reading between.start between.held.cond between.limit (match_at reading between) }
     ensures headless { (piece : Piece) → piece.head ≡ None → list_any is_refill (all_statements piece.blocks) ≡ false → holds_all piece ≡ true }
 {}
