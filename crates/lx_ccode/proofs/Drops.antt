@@ -1,6 +1,6 @@
 -- Drops of refills do not matter to a run.
-use Rattle.std.proofs.Common.{◌≡◌, ◌∙◌, ℕ, zero, suc, ◌+◌, ◌≤◌, Bool, true, false, List, [], ◌∷◌, map, length, Option, Some, None, refl, ap, sym, arith}
-use Rattle.std.specs.Prelude.{nat_le, if◌then◌else◌}
+use Rattle.std.proofs.Common.{◌≡◌, ◌∙◌, ℕ, zero, suc, ◌+◌, ◌≤◌, Bool, true, false, List, [], ◌∷◌, map, length, Option, Some, None, refl, ap, arith}
+use Rattle.std.specs.Prelude.{if◌then◌else◌}
 use Rattle.std.proofs.lemmas.List.{length-map}
 use Rattle.std.specs.List.{list_any}
 use Rattle.lx_ccode.specs.declared.piece.Stmt.{Stmt}
@@ -8,9 +8,9 @@ use Rattle.lx_ccode.specs.declared.piece.Stmt.TheVariants.{Peek, Skip, Backup, R
 use Rattle.lx_ccode.specs.declared.piece.CodeBlock.{CodeBlock}
 use Rattle.lx_ccode.specs.declared.piece.Piece.{Piece}
 use Rattle.lx_ccode.specs.Machine.{Machine, Refill, more, no_more, Answer, refilled, left, units_of, units_of_all, units_of_answers, Next, goes_on, ends, at_end, unanswered, jump, choose, code_at, come_back, peek, skip, if_unit, switch_unit, write_history, back, has_units, need, try, step, stored_block}
-use Rattle.lx_ccode.specs.Runs.{Ended, ended, fresh_machine, entry_block, loop_count, unless_looped, gone_on, run, run_in, run_of}
+use Rattle.lx_ccode.specs.Runs.{Ended, fresh_machine, entry_block, loop_count, unless_looped, gone_on, run, run_in, run_of}
 use Rattle.lx_ccode.specs.Schedules.{AreLegalAnswers, AreLegalRefills, Buffer, IsLegal, IsLegalRefill, Schedule, after_refill, after_refills, undropped, undropped_answer, without_drops}
-use Rattle.lx_ccode.specs.Statements.{all_statements, is_refill, is_state}
+use Rattle.lx_ccode.specs.Statements.{all_statements, is_state}
 
 -- ---- the units that are added
 

@@ -15,6 +15,7 @@ pub mod ReaderRuns
 pub mod Readers
 pub mod Refills
 pub mod StateRuns
+pub mod StillRuns
 pub mod StoredStates
 pub mod SufficientUnits
 pub mod SuppliedMatches

@@ -28,6 +28,7 @@ use Rattle.lx_layout.proofs.Runs.OperationSteps.{machine_at, raised-shift}
 use Rattle.lx_layout.proofs.Supplied.EnteredStates.{entered-edge}
 use Rattle.lx_layout.proofs.Supplied.ReaderClaims.{TellsOrEnds, reader_claim, told_behind}
 use Rattle.lx_layout.proofs.Supplied.ReaderRuns.{reader_code}
+use Rattle.lx_layout.proofs.Supplied.Readers.{IsReading}
 use Rattle.lx_layout.proofs.Supplied.SufficientUnits.{HoldsAs, HoldsAs-edge, StandsAt}
 use Rattle.lx_layout.proofs.Supplied.SuppliedRuns.{Tells, next_code, state_claim, suffices-start, target}
 
@@ -108,7 +109,7 @@ pub match_run : (p : Piece) (x : List ℕ) (start : ℕ) (supply : Supply) (halt
     → (IsSome end_rule → IsSome supply.eof)
     → ServesEntry supply halting endings greatest auto (code_of p.blocks) place saved rules fall end_rule block → entry_block p.conds cond ≡ Some block
     → start ≤ length x → AllByRecursion (λ unit. unit ≤ greatest) (drop start x) → (registers : ℕ → Option ℕ) (histories : ℕ → List (Option ℕ))
-    → (schedule : Schedule) → IsLegal p (length x) start schedule → (IsSome supply.eof → supply.tries ≡ false → schedule.first ≡ length x)
+    → (schedule : Schedule) → IsLegal p (length x) start schedule → (IsReading p → IsSome supply.eof → supply.tries ≡ false → schedule.first ≡ length x)
     → TellsOrEnds p supply (length x)
     (told_from endings cond auto end_rule (start_with start (bank_from registers histories)) (drop start x))
     (run_with p x start registers histories cond schedule)

@@ -169,7 +169,7 @@ module _ (p : Piece) (x : List ℕ) (start : ℕ) (supply : Supply) (halting : H
               from = omega (arith, from);
               below = lt;
               fills = fills;
-              whole = λ some fixed. let all = stands.whole some fixed in let within = fills.within in omega (arith, all, within, r.grows);
+              whole = λ reads some fixed. let all = stands.whole reads some fixed in let within = fills.within in omega (arith, all, within, r.grows);
               ready = λ none unchecked.
                   suffices-edge auto supply.check st.state unit lim' st.offset edge on unchecked (enough none lim' r.grows (room none));
             } in
@@ -248,7 +248,7 @@ module _ (p : Piece) (x : List ℕ) (start : ℕ) (supply : Supply) (halting : H
                 from = stands.from;
                 below = omega (arith, below, lt);
                 fills = fills;
-                whole = λ some fixed. let all = stands.whole some fixed in let within = fills.within in omega (arith, all, within, lt);
+                whole = λ reads some fixed. let all = stands.whole reads some fixed in let within = fills.within in omega (arith, all, within, lt);
                 ready = λ none unchecked.
                     suffices-more auto supply.check st.state (lim - st.offset) (lim' - st.offset) (omega (arith, lt)) (stands.ready none unchecked);
               } in

@@ -8,7 +8,7 @@ use Rattle.lx_ccode.specs.declared.piece.Stmt.{Stmt}
 use Rattle.lx_ccode.specs.declared.piece.Stmt.TheVariants.{Goto, Peek}
 use Rattle.lx_ccode.specs.Machine.{Answer}
 use Rattle.lx_ccode.specs.Schedules.{Buffer}
-use Rattle.lx_ccode.specs.Statements.{code_of}
+use Rattle.lx_ccode.specs.Statements.{code_of, is_reading}
 use Rattle.lx_layout.specs.Endings.{Ending}
 use Rattle.lx_layout.specs.Halting.{Halting}
 use Rattle.lx_layout.specs.RightInMode.{AreStoredBy}
@@ -18,7 +18,7 @@ use Rattle.lx_layout.specs.TreeCodes.{tree_code}
 use Rattle.lx_layout.proofs.BlockLayouts.Questions.{FitsTable}
 use Rattle.lx_layout.proofs.Supplied.CountedReaders.{itself_run, jump_run, tests_run}
 use Rattle.lx_layout.proofs.Supplied.EndReaders.{fixed_run, stored_run, tried_run, unit_run}
-use Rattle.lx_layout.proofs.Supplied.Readers.{ReaderRun, stores_states}
+use Rattle.lx_layout.proofs.Supplied.Readers.{IsReading, ReaderRun, any_block, stores_states}
 use Rattle.lx_layout.proofs.Supplied.Refills.{Buffered}
 
 -- what reads a unit has a block
@@ -46,7 +46,7 @@ module _ (p : Piece) (x : List ℕ) (start : ℕ) (supply : Supply) (halting : H
   Going code lim u kept q = ReaderRun p x start supply units Leads Ends pos mk ac first k cond code lim u kept q
 
   module _ (lim : ℕ) (u kept : Option ℕ) (q : List Answer) (buffer : Buffer) (b : Buffered (length x) start (stores_states p) lim q buffer) (le : pos ≤ lim)
-      (there : supply.eof ≡ None → units ≡ 0 → pos < lim) (whole : IsSome supply.eof → supply.tries ≡ false → lim ≡ length x) where
+      (there : supply.eof ≡ None → units ≡ 0 → pos < lim) (whole : IsReading p → IsSome supply.eof → supply.tries ≡ false → lim ≡ length x) where
     pub reader_run : (code : List Stmt) → slice_get (code_of p.blocks) block ≡ Some code
         → ServesReader supply halting endings greatest auto (code_of p.blocks) place saved rules fall reader units block Leads Ends → Going code lim u kept q
     reader_run code stands (itself none no_check leads) =
@@ -75,7 +75,7 @@ module _ (p : Piece) (x : List ℕ) (start : ℕ) (supply : Supply) (halting : H
         by here false fixed s are ends =
             let next = final asked ends in
             fixed_run p x start supply units block Leads Ends pos mk ac first k cond eof is (at_limit ∙ is) fits tree above asked to own row apart lim u kept q
-            buffer b here (whole some fixed) ends next.0 next.1
+            buffer b here (whole (any_block is_reading p.blocks block (Peek ∷ tree_code above tree) own refl) some fixed) ends next.0 next.1
         by here true tries None are ends =
             let next = final ends.0 ends.1 in
             tried_run p x start supply units block Leads Ends pos mk ac first k cond eof is (at_limit ∙ is) fits tree above asked to own row apart lim u kept q

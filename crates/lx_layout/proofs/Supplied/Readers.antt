@@ -1,16 +1,19 @@
 -- What comes of the block of what reads a unit: a unit is read, the stream ends, the block comes again with more units, or the run ends.
-use Rattle.std.specs.Prelude.{◌≡◌, ◌⊎◌, ℕ, ◌+◌, ◌*◌, ◌<◌, ◌≤◌, Bool, List, length, Option, Some, None, slice_get}
-use Rattle.std.proofs.Common.{[], arith, get_or}
+use Rattle.std.specs.Prelude.{◌≡◌, ◌⊎◌, ℕ, zero, suc, ◌+◌, ◌*◌, ◌<◌, ◌≤◌, Bool, true, ◌||◌, List, ◌∷◌, length, Option, Some, None, slice_get}
+use Rattle.std.proofs.Common.{[], ◌∙◌, ap, arith, get_or}
+use Rattle.std.proofs.Math.Bool.{or-true}
+use Rattle.std.proofs.lemmas.List.Folds.{list_any-append}
 use Rattle.std.proofs.lemmas.Option.{slice_get-get_or}
 use Rattle.std.specs.List.{list_any}
 use Rattle.lx_auto.specs.Bank.{Bank}
+use Rattle.lx_ccode.specs.declared.piece.CodeBlock.{CodeBlock}
 use Rattle.lx_ccode.specs.declared.piece.Mode.TheVariants.{Count}
 use Rattle.lx_ccode.specs.declared.piece.Piece.{Piece}
 use Rattle.lx_ccode.specs.declared.piece.Stmt.{Stmt}
 use Rattle.lx_ccode.specs.Machine.{Answer, Machine, unanswered}
 use Rattle.lx_ccode.specs.Runs.{Ended}
 use Rattle.lx_ccode.specs.Schedules.{Buffer}
-use Rattle.lx_ccode.specs.Statements.{all_statements, code_of, is_state, statement_count}
+use Rattle.lx_ccode.specs.Statements.{all_statements, code_of, is_reading, is_state, statement_count}
 use Rattle.lx_layout.specs.RightInMode.{EndsAtCheck}
 use Rattle.lx_layout.specs.Supplies.{Supply}
 use Rattle.lx_layout.proofs.Runs.PartialRuns.{EndsIn, LeadsIn}
@@ -21,6 +24,23 @@ use Rattle.lx_layout.proofs.Supplied.Refills.{Buffered, Refilled}
 -- whether the piece stores states
 abbrev pub stores_states : Piece → Bool
 stores_states p = list_any is_state (all_statements p.blocks)
+
+-- the piece reads units
+abbrev pub IsReading : Piece → Type 0
+IsReading p = list_any is_reading (all_statements p.blocks) ≡ true
+
+-- ---- a statement of a block is one of the piece
+
+pub any_block : (test : Stmt → Bool) (blocks : List CodeBlock) (block : ℕ) (code : List Stmt) → slice_get (code_of blocks) block ≡ Some code
+    → list_any test code ≡ true → list_any test (all_statements blocks) ≡ true
+any_block test [] block code stands has = absurd (cc)
+any_block test (first ∷ blocks) zero code stands has =
+    let same : first.stmts ≡ code = cc in
+    list_any-append test first.stmts (all_statements blocks)
+    ∙ ap (λ t. t || list_any test (all_statements blocks)) (ap (λ l. list_any test l) same ∙ has)
+any_block test (first ∷ blocks) (suc block) code stands has =
+    list_any-append test first.stmts (all_statements blocks)
+    ∙ ap (λ t. list_any test first.stmts || t) (any_block test blocks block code stands has) ∙ or-true (list_any test first.stmts)
 
 -- a run ends with a refill that is asked and not answered, or at a check where units are counted
 abbrev pub EndsBefore : Piece → Supply → (units : ℕ) → Ended → Type 0

@@ -20,7 +20,7 @@ use Rattle.lx_sequence.proofs.Agreeing.{Agrees, Agrees-after}
 use Rattle.lx_layout.specs.Halting.{Halting, is_saved, saves_on}
 use Rattle.lx_layout.specs.Supplies.{Supply}
 use Rattle.lx_layout.proofs.Runs.UnitsLeft.{edge_on-one, list_any-edge_on}
-use Rattle.lx_layout.proofs.Supplied.Readers.{stores_states}
+use Rattle.lx_layout.proofs.Supplied.Readers.{IsReading, stores_states}
 use Rattle.lx_layout.proofs.Supplied.Refills.{Buffered}
 use Rattle.lx_layout.proofs.Supplied.StateRuns.{FallsOnward, IsFoundAgain, held_after}
 
@@ -143,7 +143,7 @@ module _ (p : Piece) (x : List ℕ) (start : ℕ) (supply : Supply) (greatest : 
     pub from : start ≤ st.offset
     pub below : st.offset ≤ lim
     pub fills : Buffered (length x) start (stores_states p) lim q buffer
-    -- without refills the buffer has the whole stream
-    pub whole : IsSome supply.eof → supply.tries ≡ false → lim ≡ length x
+    -- without refills the buffer has the whole stream, where the piece reads
+    pub whole : IsReading p → IsSome supply.eof → supply.tries ≡ false → lim ≡ length x
     -- a state without a check has units enough up to the next one
     pub ready : supply.eof ≡ None → supply.check st.state ≡ 0 → Suffices (graph_of auto) supply.check st.state (lim - st.offset)

@@ -1,14 +1,15 @@
 -- A piece whose blocks serve the automaton of its rules with a supply is right in the mode of the supply.
-use Rattle.std.specs.Prelude.{◌≡◌, ◌⊎◌, ℕ, suc, ◌-◌, ◌≤◌, List, [], ◌∷◌, length, drop, IfSome, Option, Some, None, IsSome, false, refl}
+use Rattle.std.specs.Prelude.{◌≡◌, ◌⊎◌, ℕ, suc, ◌-◌, ◌≤◌, List, [], ◌∷◌, length, drop, IfSome, Option, Some, None, IsSome, Bool, true, false, refl}
 use Rattle.std.proofs.Common.{inl, inr, sym, ap, ◌∙◌, subst, arith, length-drop, true≢false}
+use Rattle.std.specs.List.{AllByRecursion, list_any}
 use Rattle.lx_auto.specs.Bank.{Bank}
-use Rattle.lx_auto.specs.Run.{start_with}
+use Rattle.lx_auto.specs.Run.{found_behind, start_with}
 use Rattle.lx_auto.specs.declared.automaton.Auto.{Auto}
 use Rattle.lx_base.specs.Spelling.{greatest_unit}
 use Rattle.lx_base.specs.declared.settings.Enc.{Enc}
 use Rattle.lx_ccode.specs.Runs.{Ended, entry_block}
 use Rattle.lx_ccode.specs.Schedules.{IsLegal, Schedule}
-use Rattle.lx_ccode.specs.Statements.{code_of}
+use Rattle.lx_ccode.specs.Statements.{all_statements, code_of, is_reading}
 use Rattle.lx_ccode.specs.declared.piece.Mode.{Mode}
 use Rattle.lx_ccode.specs.declared.piece.Mode.TheVariants.{Count, Eof, EofFixed, Plain}
 use Rattle.lx_ccode.specs.declared.piece.Piece.{Piece}
@@ -21,7 +22,7 @@ use Rattle.lx_layout.specs.Endings.{Ending}
 use Rattle.lx_layout.specs.Halting.{Halting}
 use Rattle.lx_layout.specs.RightInMode.{AreEnough, EndsAtCheck, HaveEndings, IsRightInMode, IsSupplied, IsSupplyOf, TellsMatch}
 use Rattle.lx_layout.specs.Starts.{run_with}
-use Rattle.lx_layout.specs.Stops.{bank_from}
+use Rattle.lx_layout.specs.Stops.{Stops, bank_from, last_standing, told_found}
 use Rattle.lx_layout.specs.Supplied.{Serves, ServesEntry}
 use Rattle.lx_layout.specs.Supplies.{Supply}
 use Rattle.lx_layout.specs.Told.{put_back, slash_value, told_at, told_of, told_with}
@@ -30,6 +31,8 @@ use Rattle.lx_layout.proofs.Runs.Matches.{IsWord-units, outcome_told, stops_ther
 use Rattle.lx_layout.proofs.Supplied.MatchRuns.{match_run, told_from}
 use Rattle.lx_layout.proofs.Supplied.PlainRuns.{plain_found}
 use Rattle.lx_layout.proofs.Supplied.ReaderClaims.{TellsOrEnds}
+use Rattle.lx_layout.proofs.Supplied.Readers.{IsReading}
+use Rattle.lx_layout.proofs.Supplied.StillRuns.{still_found}
 
 -- there is none where there is none
 nothing : (o : Option ℕ) → o ≡ None → IsSome o → ⊥
@@ -72,20 +75,32 @@ module _ (policy : Policy) (enc : Enc) (patterns : List Pattern) (auto : Auto) (
     -- where all units are there from the start
     plain_right : FitsTable supply.among piece → IsSupplyOf Plain supply auto piece → IsRightInMode policy Plain cond enc patterns endings piece
     plain_right fits of stream start schedule registers histories le units legal on empty answered =
-        let bank : Bank = bank_from registers histories in
         let lone = lone_entry of.0 (end_rule patterns) refl enters in
         let plain = subst (λ o. Serves supply halting endings (greatest_unit enc) auto (code_of piece.blocks) place saved rules fall o) lone.0 serves in
+        let small = IsWord-units enc patterns (drop start stream) units in
+        let begins : entry_block piece.conds cond ≡ Some (place 0) = is_entry ∙ ap (λ n. Some n) lone.1 in
         let stops = stops_there policy enc patterns auto is endings stream start (bank_from registers histories) empty units on.0 on.1 on.2 in
         let no_end : (rule : ℕ) → IsEnd policy enc patterns stream start rule → ⊥ = λ rule end. let e = sym lone.0 ∙ end.1 in cc in
         let told = outcome_told policy enc patterns auto is endings stream start (bank_from registers histories) empty units ends.slashes ends.set no_end cond in
-        let ran = plain_found piece stream start supply halting endings (greatest_unit enc) auto place saved rules fall plain of.0 of.1 fits is.fits.formed cond
-        (is_entry ∙ ap (λ n. Some n) lone.1) le (IsWord-units enc patterns (drop start stream) units) registers histories stops schedule (legal.whole of.2) in
-        inr (told.0, told.1, ran ∙ told.2)
+        inr (told.0, told.1, ran plain begins small stops (list_any is_reading (all_statements piece.blocks)) refl ∙ told.2)
+      where
+        -- where no unit is read, it does not matter how many there are
+        ran : Serves supply halting endings (greatest_unit enc) auto (code_of piece.blocks) place saved rules fall None → entry_block piece.conds cond ≡ Some (place 0)
+            → AllByRecursion (λ unit. unit ≤ greatest_unit enc) (drop start stream) → Stops auto (start_with start (bank_from registers histories)) (drop start stream)
+            → (t : Bool) → list_any is_reading (all_statements piece.blocks) ≡ t → run_with piece stream start registers histories cond schedule
+            ≡ told_found endings cond (found_behind auto (last_standing auto (start_with start (bank_from registers histories)) (drop start stream)))
+            (last_standing auto (start_with start (bank_from registers histories)) (drop start stream)).offset
+        ran plain begins small stops true reads =
+            plain_found piece stream start supply halting endings (greatest_unit enc) auto place saved rules fall plain of.0 of.1 fits is.fits.formed cond begins le small
+            registers histories stops schedule (legal.whole (reads, of.2))
+        ran plain begins small stops false still =
+            still_found piece stream start supply halting endings (greatest_unit enc) auto place saved rules fall plain of.0 of.1 is.fits.formed cond begins still small
+            registers histories stops schedule
 
     -- in the other modes
     module _ (mode : Mode) (supplied : IsSupplied mode supply auto piece) (enough : supply.eof ≡ None → AreEnough auto supply.check)
         (counts : (units : ℕ) (told : Ended) → supply.eof ≡ None → EndsAtCheck Count piece units told → EndsAtCheck mode piece units told)
-        (whole : (units start : ℕ) (schedule : Schedule) → IsLegal piece units start schedule → IsSome supply.eof → supply.tries ≡ false
+        (whole : (units start : ℕ) (schedule : Schedule) → IsLegal piece units start schedule → IsReading piece → IsSome supply.eof → supply.tries ≡ false
         → schedule.first ≡ units) where
       mode_right : IsRightInMode policy mode cond enc patterns endings piece
       mode_right stream start schedule registers histories le units legal on empty answered =
@@ -121,12 +136,12 @@ supplied_right policy mode enc patterns auto endings supply halting piece place 
     by Count supplied =
         mode_right policy enc patterns auto is endings ends cond supply halting piece place saved rules fall entry serves enters some is_entry Count supplied
         (λ none. supplied.of_mode.1) (λ units told none checked. checked)
-        (λ units start schedule legal there. absurd (nothing supply.eof supplied.of_mode.0 there))
+        (λ units start schedule legal reads there. absurd (nothing supply.eof supplied.of_mode.0 there))
     by EofFixed supplied =
         mode_right policy enc patterns auto is endings ends cond supply halting piece place saved rules fall entry serves enters some is_entry EofFixed supplied
         (λ none. absurd (nothing supply.eof none supplied.of_mode.0)) (λ units told none checked. absurd (nothing supply.eof none supplied.of_mode.0))
-        (λ units start schedule legal there fixed. legal.whole supplied.of_mode.2)
+        (λ units start schedule legal reads there fixed. legal.whole (reads, supplied.of_mode.2))
     by Eof supplied =
         mode_right policy enc patterns auto is endings ends cond supply halting piece place saved rules fall entry serves enters some is_entry Eof supplied
         (λ none. absurd (nothing supply.eof none supplied.of_mode.0)) (λ units told none checked. absurd (nothing supply.eof none supplied.of_mode.0))
-        (λ units start schedule legal there fixed. absurd (true≢false (sym supplied.of_mode.1 ∙ fixed)))
+        (λ units start schedule legal reads there fixed. absurd (true≢false (sym supplied.of_mode.1 ∙ fixed)))
