@@ -1,5 +1,5 @@
 -- Where the units of the window end behind a match: not before where they ended, and in the stream.
-use Rattle.std.proofs.Common.{◌≡◌, ◌∙◌, ap, sym, refl, subst, ℕ, zero, suc, ◌+◌, ◌≤◌, Bool, true, false, not, List, [], ◌∷◌, Option, Some, None, arith, length}
+use Rattle.std.proofs.Common.{◌≡◌, refl, ℕ, zero, suc, ◌+◌, ◌≤◌, Bool, true, false, not, List, [], ◌∷◌, Option, Some, None, arith, length}
 use Rattle.std.specs.Prelude.{if◌then◌else◌, nat_le, nat_lt}
 use Rattle.lx_ccode.specs.declared.piece.Piece.{Piece}
 use Rattle.lx_ccode.specs.declared.piece.Stmt.{Stmt}
@@ -11,7 +11,7 @@ use Rattle.lx_ccode.specs.Statements.{is_refill}
 use Rattle.lx_ccode.proofs.Steps.{ChangesOnly-step}
 use Rattle.lx_step.specs.declared.answers.Outcome.{Outcome}
 use Rattle.lx_step.specs.Points.{Point, kept_by, needed_by}
-use Rattle.lx_run.specs.Matches.{MatchEnd, Stand, answered, asked, ended, made, match_from, match_of, on_from, point_back, refilled_by, stand_back, stepped}
+use Rattle.lx_run.specs.Matches.{MatchEnd, Stand, asked, ended, made, match_from, match_of, on_from, point_back, refilled_by, stand_back, stepped}
 use Rattle.lx_run.specs.Readings.{Reading, added, is_whole, refill_at}
 
 module _ (piece : Piece) (reading : Reading) (start : ℕ) where

@@ -1,5 +1,5 @@
 -- Each match of a run may start.
-use Rattle.std.proofs.Common.{◌≡◌, ◌∙◌, ap, sym, refl, subst, ℕ, ◌≤◌, ◌||◌, Bool, true, false, List, [], ◌∷◌, Option, None, arith, length}
+use Rattle.std.proofs.Common.{◌≡◌, ◌∙◌, ap, sym, refl, subst, ◌≤◌, ◌||◌, Bool, true, false, List, [], ◌∷◌, Option, None, arith, length}
 use Rattle.std.specs.Prelude.{◌==◌, ◌&&◌, if◌then◌else◌, is_some}
 use Rattle.std.specs.List.{list_any}
 use Rattle.std.proofs.lemmas.Bool.{false≢true}
@@ -11,7 +11,7 @@ use Rattle.lx_ccode.specs.Validity.{IsValid}
 use Rattle.lx_step.specs.Calls.{IsEnd}
 use Rattle.lx_step.specs.Held.{fresh}
 use Rattle.lx_run.specs.MatchRuns.{EndsAsRun, HoldsWhatItReads, IsOfRun, MayStart, begins, follows}
-use Rattle.lx_run.specs.Matches.{MatchEnd, match_of}
+use Rattle.lx_run.specs.Matches.{match_of}
 use Rattle.lx_run.specs.Readings.{Reading}
 use Rattle.lx_run.specs.Streams.{guessed_mode, holds_all, holds_all_in, mode_by}
 use Rattle.lx_run.specs.Texts.{Between, beginning, behind, match_at}

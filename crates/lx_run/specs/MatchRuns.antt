@@ -1,5 +1,5 @@
 -- That a match over a window ends as a run over the whole stream, and which matches a run makes.
-use Rattle.std.specs.Prelude.{◌≡◌, ◌≤◌, ℕ, List, ◌++◌, length, Bool, true, false}
+use Rattle.std.specs.Prelude.{◌≡◌, ◌≤◌, ℕ, List, ◌++◌, length, Bool, true}
 use Rattle.std.specs.List.{list_any}
 use Rattle.lx_ccode.specs.declared.piece.Piece.{Piece}
 use Rattle.lx_ccode.specs.Runs.{Ended, run_of}
