@@ -20,7 +20,8 @@ pub mod PartStates
 pub mod PartOrder
 pub mod CalmLayouts
 pub mod AskedLayouts
-pub mod PeekedLayouts
+pub mod StillBlocks
+pub mod ReadingLayouts
 pub mod LastBlocks
 pub mod AskingParts
 pub mod ShortNumbers

@@ -6,11 +6,10 @@ ghost use Rattle.lx_base.specs.Spelling.{greatest_unit};
 ghost use Rattle.lx_base.specs.declared.limits.TheConstants.{STATEMENT_LIMIT};
 ghost use Rattle.lx_base.specs.declared.settings.Enc.{Enc};
 ghost use Rattle.lx_base.specs.declared.settings.Format.{Format};
-ghost use Rattle.lx_ccode.specs.Counts.{is_peek};
 ghost use Rattle.lx_ccode.specs.Heads.{is_format_three};
 ghost use Rattle.lx_ccode.specs.Labels.{is_like_block};
 ghost use Rattle.lx_ccode.specs.States.{states_from};
-ghost use Rattle.lx_ccode.specs.Statements.{all_statements, code_of, has_register_one, is_need, is_state, is_try, names_table, statement_count};
+ghost use Rattle.lx_ccode.specs.Statements.{all_statements, code_of, has_register_one, is_need, is_reading, is_state, is_try, names_table, statement_count};
 ghost use Rattle.lx_ccode.specs.Validity.{AreOnce, EachBlockHasSpelling, HasFewGroups, IsLine, IsLong, IsShort, IsStateSwitch, IsValid, JumpsBelow, NamesOneOf, ends_once, label_of, labels, last_statements, refills_after_states, states_before_refills, tries_after_state};
 ghost use Rattle.lx_ccode.specs.declared.piece.CodeBlock.{CodeBlock};
 ghost use Rattle.lx_ccode.specs.declared.piece.Mode.{Mode};
@@ -71,7 +70,7 @@ pub fn parts_number_their_states()
         → blocks ≡ parts_blocks 0 first parts → list_any is_state (all_statements blocks) ≡ false }
 {}
 
-/// A refill is asked for behind what is stored, and what reads a unit asks for a refill in one way where all scanners do so. A block in
+/// A refill is asked for behind what is stored, and what reads units asks for a refill in one way where all scanners do so. A block in
 /// which a refill is tried behind what was stored is not the last.
 pub fn parts_ask_before_they_read()
     ensures after { (first : ℕ) (parts : List Part) (blocks : List CodeBlock) → blocks ≡ parts_blocks 0 first parts
@@ -83,9 +82,9 @@ pub fn parts_ask_before_they_read()
     ensures no_tries { (first : ℕ) (parts : List Part) (blocks : List CodeBlock) → AllByRecursion TriesNothing parts
         → blocks ≡ parts_blocks 0 first parts → list_any is_try (all_statements blocks) ≡ false }
     ensures needs { (greatest first : ℕ) (parts : List Part) (blocks : List CodeBlock) → AreFormed greatest parts → AllByRecursion Counts parts
-        → blocks ≡ parts_blocks 0 first parts → list_any is_peek (all_statements blocks) ≡ true → list_any is_need (all_statements blocks) ≡ true }
+        → blocks ≡ parts_blocks 0 first parts → list_any is_reading (all_statements blocks) ≡ true → list_any is_need (all_statements blocks) ≡ true }
     ensures tries { (first : ℕ) (parts : List Part) (blocks : List CodeBlock) → AllByRecursion Tries parts
-        → blocks ≡ parts_blocks 0 first parts → list_any is_peek (all_statements blocks) ≡ true → list_any is_try (all_statements blocks) ≡ true }
+        → blocks ≡ parts_blocks 0 first parts → list_any is_reading (all_statements blocks) ≡ true → list_any is_try (all_statements blocks) ≡ true }
     ensures last { (first : ℕ) (parts : List Part) (blocks : List CodeBlock) → blocks ≡ parts_blocks 0 first parts
         → tries_after_state false (last_statements blocks) ≡ false }
 {}

@@ -4,7 +4,6 @@ use Rattle.std.proofs.Common.{inl, inr, ◌∙◌, ap, arith, sym, true≢false}
 use Rattle.std.proofs.lemmas.Bool.{false≢true}
 use Rattle.std.specs.List.{AllByRecursion, list_any}
 use Rattle.lx_auto.specs.declared.automaton.Auto.{Auto}
-use Rattle.lx_ccode.specs.Counts.{is_peek}
 use Rattle.lx_ccode.specs.Statements.{all_statements, code_of, is_need, is_try}
 use Rattle.lx_ccode.specs.declared.piece.CodeBlock.{CodeBlock}
 use Rattle.lx_ccode.specs.declared.piece.Stmt.{Stmt}
@@ -16,7 +15,7 @@ use Rattle.lx_layout.specs.Supplies.{Reader, Supply, need_code}
 use Rattle.lx_dispatch.specs.TestTrees.{TestTree, fork, leaf, switch, test}
 use Rattle.lx_layout.specs.TreeCodes.{inner_blocks, tree_code}
 use Rattle.lx_layout.proofs.BlockLayouts.Questions.{any_question}
-use Rattle.lx_layout.proofs.PartLayouts.CalmBlocks.{Calm, IsCalm}
+use Rattle.lx_layout.proofs.PartLayouts.CalmBlocks.{IsCalm}
 use Rattle.lx_layout.proofs.PartLayouts.CalmLayouts.{calm_layout}
 use Rattle.lx_layout.proofs.PartLayouts.StatementSorts.{reader_statements}
 use Rattle.lx_layout.proofs.Validity.EachElement.{each-map}
@@ -104,10 +103,13 @@ module _ (passes : Stmt → Bool) where
   none_in [] h = refl
   none_in (statement ∷ code) h = ap (λ t. t || list_any passes code) h.0 ∙ none_in code h.1
 
+  pub has-nowhere : (codes : List (List Stmt)) → AllByRecursion (λ code. list_any passes code ≡ false) codes → Has codes → ⊥
+  has-nowhere [] h e = false≢true e
+  has-nowhere (code ∷ codes) h e = has-nowhere codes h.1 (sym (ap (λ t. t || has passes codes) h.0) ∙ e)
+
   pub has-none : (codes : List (List Stmt)) → AllByRecursion (λ code. AllByRecursion (λ statement. passes statement ≡ false) code) codes → Has codes → ⊥
-  has-none [] h e = false≢true e
-  has-none (code ∷ codes) h e =
-      has-none codes h.1 (sym (ap (λ t. t || has passes codes) (none_in code h.0)) ∙ e)
+  has-none codes h e =
+      has-nowhere codes (each-map (λ code. AllByRecursion (λ statement. passes statement ≡ false) code) (λ code. list_any passes code ≡ false) none_in codes h) e
 
   pub in_statements : (blocks : List CodeBlock) → list_any passes (all_statements blocks) ≡ has passes (code_of blocks)
   in_statements [] = refl
@@ -120,12 +122,6 @@ module _ (passes : Stmt → Bool) where
           by : (t : Bool) → list_any passes (a ++ b) ≡ list_any passes a || list_any passes b → (t || list_any passes (a ++ b)) ≡ (t || list_any passes a) || list_any passes b
           by true again = refl
           by false again = again
-
--- calm code reads nothing
-pub no_peek : (codes : List (List Stmt)) → AllByRecursion Calm codes → Has is_peek codes → ⊥
-no_peek codes h =
-    has-none is_peek codes (each-map Calm (λ code. AllByRecursion (λ statement. is_peek statement ≡ false) code)
-    (λ code is. each-map IsCalm (λ statement. is_peek statement ≡ false) (λ statement calm. calm.peek) code is) codes h)
 
 -- ---- what reads asks
 

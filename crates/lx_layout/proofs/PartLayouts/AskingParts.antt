@@ -5,8 +5,7 @@ use Rattle.std.proofs.lemmas.Bool.{eqb-false, false≢true}
 use Rattle.std.specs.List.{AllByRecursion, list_any}
 use Rattle.lx_auto.specs.Automaton.{state_of}
 use Rattle.lx_auto.specs.declared.automaton.State.{State}
-use Rattle.lx_ccode.specs.Counts.{is_peek}
-use Rattle.lx_ccode.specs.Statements.{all_statements, code_of, is_need, is_try}
+use Rattle.lx_ccode.specs.Statements.{all_statements, code_of, is_need, is_reading, is_try}
 use Rattle.lx_ccode.specs.Validity.{refills_after_states, states_before_refills}
 use Rattle.lx_ccode.specs.declared.piece.CodeBlock.{CodeBlock}
 use Rattle.lx_ccode.specs.declared.piece.Stmt.{Stmt}
@@ -19,7 +18,7 @@ use Rattle.lx_layout.specs.Supplies.{Reader, Supply, entry, state}
 use Rattle.lx_layout.proofs.PartLayouts.AskedLayouts.{Has, checks_need, has, has-back, has-front, has-none, has-split, in_statements, no_needs, no_tries, turn_tries}
 use Rattle.lx_layout.proofs.PartLayouts.CalmLayouts.{layout_after, layout_before}
 use Rattle.lx_layout.proofs.PartLayouts.PartBlocks.{OfBlocks, of_parts}
-use Rattle.lx_layout.proofs.PartLayouts.PeekedLayouts.{EachPasses, Passes, layout_peeks, layout_starts}
+use Rattle.lx_layout.proofs.PartLayouts.ReadingLayouts.{EachPasses, Passes, layout_reads, layout_starts}
 use Rattle.lx_layout.proofs.PartLayouts.StoredLayouts.{codes-parts}
 use Rattle.lx_layout.proofs.PartLayouts.StoredNumbers.{not_zero}
 
@@ -140,13 +139,13 @@ module _ (greatest first : ℕ) (part : Part) (formed : IsFormed greatest part) 
     all_pass [] lone = tt
     all_pass (given ∷ states) lone = ((λ some. absurd (some lone)), later_pass 0 states)
 
-  part_needs : (begin : ℕ) → Has is_peek (part_codes part begin first) → Has is_need (part_codes part begin first)
+  part_needs : (begin : ℕ) → Has is_reading (part_codes part begin first) → Has is_need (part_codes part begin first)
   part_needs begin h = by (nat_eq (slice_index counts.checks 0) 0) refl
     where
       by : (t : Bool) → nat_eq (slice_index counts.checks 0) 0 ≡ t → Has is_need (part_codes part begin first)
       by true none =
           let zero_check : slice_index counts.checks 0 ≡ 0 = grind (arith, none) in
-          layout_peeks is_need supply part.halting part.given.endings part.given.end_rule part.trees part.given.auto begin
+          layout_reads is_need supply part.halting part.given.endings part.given.end_rule part.trees part.given.auto begin
           (λ rule is. let clash = sym is ∙ no_end_rule in absurd (cc))
           (all_pass (rule_block supply part.halting part.given.end_rule part.trees part.given.auto begin)
           (fall_block supply part.halting part.given.end_rule part.trees part.given.auto begin) begin
@@ -176,9 +175,9 @@ module _ (first : ℕ) (part : Part) (tries : Tries part) where
   each_tries rules fall begin place s (given ∷ states) =
       ((λ some. turn_passes (state s) (part.given.demand.check s)), each_tries rules fall begin place (suc s) states)
 
-  part_tries : (begin : ℕ) → Has is_peek (part_codes part begin first) → Has is_try (part_codes part begin first)
+  part_tries : (begin : ℕ) → Has is_reading (part_codes part begin first) → Has is_try (part_codes part begin first)
   part_tries begin h =
-      layout_peeks is_try supply_at part.halting part.given.endings part.given.end_rule part.trees part.given.auto begin
+      layout_reads is_try supply_at part.halting part.given.endings part.given.end_rule part.trees part.given.auto begin
       (λ rule is. turn_passes entry 0)
       (each_tries (rule_block supply_at part.halting part.given.end_rule part.trees part.given.auto begin)
       (fall_block supply_at part.halting part.given.end_rule part.trees part.given.auto begin) begin
@@ -187,19 +186,19 @@ module _ (first : ℕ) (part : Part) (tries : Tries part) where
 -- ---- all scanners
 
 module _ (passes : Stmt → Bool) where
-  -- each scanner that reads a unit has a statement that passes the test
+  -- each scanner that reads units has a statement that passes the test
   abbrev EachAsks : (begin first : ℕ) → List Part → Type 0
   EachAsks begin first parts =
-      EachPart (λ part begin from. Has is_peek (part_codes part begin from) → Has passes (part_codes part begin from)) begin first parts
+      EachPart (λ part begin from. Has is_reading (part_codes part begin from) → Has passes (part_codes part begin from)) begin first parts
 
-  parts_ask : (begin first : ℕ) (parts : List Part) → EachAsks begin first parts → Has is_peek (code_of (parts_blocks begin first parts))
+  parts_ask : (begin first : ℕ) (parts : List Part) → EachAsks begin first parts → Has is_reading (code_of (parts_blocks begin first parts))
       → Has passes (code_of (parts_blocks begin first parts))
   parts_ask begin first [] asks h = absurd (false≢true h)
   parts_ask begin first (part ∷ parts) asks h =
       let own : List (List Stmt) = part_codes part begin first in
       let others : List (List Stmt) = code_of (parts_blocks (begin + length (part_codes part begin first)) (first + given_asked part.given) parts) in
       subst (λ l. Has passes l) (sym (codes-parts begin first part parts))
-      (by (has-split is_peek own others (subst (λ l. Has is_peek l) (codes-parts begin first part parts) h))
+      (by (has-split is_reading own others (subst (λ l. Has is_reading l) (codes-parts begin first part parts) h))
       (λ g. has-front passes own others (asks.0 g))
       (λ g. has-back passes own others
       (parts_ask (begin + length (part_codes part begin first)) (first + given_asked part.given) parts asks.1 g)))
@@ -209,11 +208,11 @@ module _ (passes : Stmt → Bool) where
       by (inr b) f g = g b
 
   blocks_ask : (first : ℕ) (parts : List Part) (blocks : List CodeBlock) → EachAsks 0 first parts → blocks ≡ parts_blocks 0 first parts
-      → list_any is_peek (all_statements blocks) ≡ true → list_any passes (all_statements blocks) ≡ true
+      → list_any is_reading (all_statements blocks) ≡ true → list_any passes (all_statements blocks) ≡ true
   blocks_ask first parts blocks asks same h =
       ap (λ l. list_any passes (all_statements l)) same ∙ in_statements passes (parts_blocks 0 first parts)
       ∙ parts_ask 0 first parts asks
-      (sym (in_statements is_peek (parts_blocks 0 first parts)) ∙ sym (ap (λ l. list_any is_peek (all_statements l)) same) ∙ h)
+      (sym (in_statements is_reading (parts_blocks 0 first parts)) ∙ sym (ap (λ l. list_any is_reading (all_statements l)) same) ∙ h)
 
 parts_need : (greatest begin first : ℕ) (parts : List Part) → AreFormed greatest parts → AllByRecursion Counts parts → EachAsks is_need begin first parts
 parts_need greatest begin first [] are counts = tt
@@ -229,10 +228,10 @@ parts_try begin first (part ∷ parts) tries = (
   parts_try (begin + length (part_codes part begin first)) (first + given_asked part.given) parts tries.1,
 )
 
-pub peeks_need : (greatest first : ℕ) (parts : List Part) (blocks : List CodeBlock) → AreFormed greatest parts → AllByRecursion Counts parts
-    → blocks ≡ parts_blocks 0 first parts → list_any is_peek (all_statements blocks) ≡ true → list_any is_need (all_statements blocks) ≡ true
-peeks_need greatest first parts blocks are counts same h = blocks_ask is_need first parts blocks (parts_need greatest 0 first parts are counts) same h
+pub reads_need : (greatest first : ℕ) (parts : List Part) (blocks : List CodeBlock) → AreFormed greatest parts → AllByRecursion Counts parts
+    → blocks ≡ parts_blocks 0 first parts → list_any is_reading (all_statements blocks) ≡ true → list_any is_need (all_statements blocks) ≡ true
+reads_need greatest first parts blocks are counts same h = blocks_ask is_need first parts blocks (parts_need greatest 0 first parts are counts) same h
 
-pub peeks_try : (first : ℕ) (parts : List Part) (blocks : List CodeBlock) → AllByRecursion Tries parts → blocks ≡ parts_blocks 0 first parts
-    → list_any is_peek (all_statements blocks) ≡ true → list_any is_try (all_statements blocks) ≡ true
-peeks_try first parts blocks tries same h = blocks_ask is_try first parts blocks (parts_try 0 first parts tries) same h
+pub reads_try : (first : ℕ) (parts : List Part) (blocks : List CodeBlock) → AllByRecursion Tries parts → blocks ≡ parts_blocks 0 first parts
+    → list_any is_reading (all_statements blocks) ≡ true → list_any is_try (all_statements blocks) ≡ true
+reads_try first parts blocks tries same h = blocks_ask is_try first parts blocks (parts_try 0 first parts tries) same h

@@ -51,6 +51,10 @@ pub accept_any : (o : Option Accept) → OfAccept (λ accept. Unit {0}) o
 accept_any None = tt
 accept_any (Some accept) = tt
 
+pub accepts_any : (states : List State) → OfAccepts (λ accept. Unit {0}) states
+accepts_any [] = tt
+accepts_any (given ∷ states) = (accept_any given.accept, accepts_any states)
+
 -- ---- tests
 
 calm_question : (question : Question) (block : ℕ) → IsCalm (asks question block)
@@ -157,11 +161,6 @@ module _ (halting : Halting) (endings : ℕ → Ending) (auto : Auto) where
         ends = λ accept any. calm_ending endings accept.rule accept.values;
         end_rule = λ rule any. calm_ending endings rule [];
       }
-
-  -- nothing is asked of accepts
-  accepts_any : (states : List State) → OfAccepts (λ accept. Unit {0}) states
-  accepts_any [] = tt
-  accepts_any (given ∷ states) = (accept_any given.accept, accepts_any states)
 
   pub calm_lone : (rules : ℕ → ℕ) (fall number : ℕ) (o : Option Accept) → AllByRecursion Calm (lone_blocks auto rules fall number o)
   calm_lone rules fall number o =

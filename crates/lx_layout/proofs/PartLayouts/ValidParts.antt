@@ -18,7 +18,7 @@ use Rattle.lx_ccode.specs.Counts.{is_peek, state_count}
 use Rattle.lx_ccode.specs.Heads.{is_custom, is_format_three, is_three}
 use Rattle.lx_ccode.specs.Labels.{is_like_block}
 use Rattle.lx_ccode.specs.States.{states_from}
-use Rattle.lx_ccode.specs.Statements.{all_statements, has_register_one, is_need, is_of_three, is_state, is_switch, is_try, names_table, statement_count}
+use Rattle.lx_ccode.specs.Statements.{all_statements, has_register_one, is_need, is_of_three, is_reading, is_state, is_switch, is_try, names_table, statement_count}
 use Rattle.lx_ccode.specs.Validity.{AreAscending, AreOnce, EachBlockHasSpelling, HasFewGroups, IsByte, IsLine, IsLong, IsShort, IsStateSwitch, IsValid, NamesOneOf, ends_once, label_of, labels, states_before_refills}
 use Rattle.lx_ccode.specs.declared.piece.CodeBlock.{CodeBlock}
 use Rattle.lx_ccode.specs.declared.piece.CondCase.{CondCase}
@@ -27,13 +27,15 @@ use Rattle.lx_ccode.specs.declared.piece.Mode.{Mode}
 use Rattle.lx_ccode.specs.declared.piece.Mode.TheVariants.{Count, Eof, EofFixed, Plain}
 use Rattle.lx_ccode.specs.declared.piece.Piece.{Piece}
 use Rattle.lx_ccode.specs.declared.piece.StateCase.{StateCase}
+use Rattle.lx_ccode.specs.declared.piece.Stmt.{Stmt}
+use Rattle.lx_ccode.specs.declared.piece.Stmt.TheVariants.{IfEnd, Peek, Skip}
 use Rattle.lx_encode.specs.Units.{unit_size}
 use Rattle.lx_layout.specs.FormedParts.{AllStore, AreFormed, all_asked, conds_of}
 use Rattle.lx_layout.specs.PartModes.{CountsNothing, TriesNothing}
 use Rattle.lx_layout.specs.PartPieces.{IsPieceOf, Suits, head_with}
 use Rattle.lx_layout.specs.Parts.{Part, parts_blocks}
 use Rattle.lx_layout.specs.Writable.{PartsCanBeWritten}
-use Rattle.lx_layout.proofs.PartLayouts.AskingParts.{needs_none, peeks_need, peeks_try, refills_after, states_before, tries_none}
+use Rattle.lx_layout.proofs.PartLayouts.AskingParts.{needs_none, reads_need, reads_try, refills_after, states_before, tries_none}
 use Rattle.lx_layout.proofs.PartLayouts.ClosedParts.{all_end, all_jump, length-parts}
 use Rattle.lx_layout.proofs.PartLayouts.LastBlocks.{last_tries_none}
 use Rattle.lx_layout.proofs.PartLayouts.OfFormatTwo.{none_of_three, switches_bytes}
@@ -112,6 +114,14 @@ keeps Eof eof peeks needs tries unit none without counts does =
     let b : (not peeks || tries) ≡ true = or_else peeks tries (does refl) in
     rw (unit, a, b) refl
 
+-- what reads a unit is among what reads
+peeks_read : (statements : List Stmt) → list_any is_peek statements ≡ true → list_any is_reading statements ≡ true
+peeks_read [] peeks = peeks
+peeks_read (Peek ∷ statements) peeks = refl
+peeks_read (Skip ∷ statements) peeks = refl
+peeks_read (IfEnd block ∷ statements) peeks = refl
+peeks_read (statement ∷ statements) peeks = peeks_read statements peeks
+
 -- ---- the piece
 
 module _ (format : Format) (custom : Bool) (enc : Enc) (mode : Mode) (stores : Bool) (first : ℕ) (parts : List Part) (piece : Piece) (some : 0 < length parts)
@@ -174,8 +184,10 @@ module _ (format : Format) (custom : Bool) (enc : Enc) (mode : Mode) (stores : B
   mode_kept =
       keeps mode (is_some piece.eof) (list_any is_peek (all_statements piece.blocks)) (list_any is_need (all_statements piece.blocks))
       (list_any is_try (all_statements piece.blocks)) unit_there no_need no_try
-      (λ e. peeks_need (greatest_unit enc) first parts piece.blocks are (subst (λ m. AllByRecursion (Suits m) parts) e suit) is.blocks)
-      (λ e. peeks_try first parts piece.blocks (subst (λ m. AllByRecursion (Suits m) parts) e suit) is.blocks)
+      (λ e peeks. reads_need (greatest_unit enc) first parts piece.blocks are (subst (λ m. AllByRecursion (Suits m) parts) e suit) is.blocks
+      (peeks_read (all_statements piece.blocks) peeks))
+      (λ e peeks. reads_try first parts piece.blocks (subst (λ m. AllByRecursion (Suits m) parts) e suit) is.blocks
+      (peeks_read (all_statements piece.blocks) peeks))
 
   one_way : (list_any is_need (all_statements piece.blocks) ≡ false) ⊎ (list_any is_try (all_statements piece.blocks) ≡ false)
   one_way = by mode refl

@@ -90,7 +90,7 @@ module _ (Home : ℕ → Type 0) (outside : ℕ) (never : Home outside → ⊥) 
     asks = λ asked to any also at. inl refl;
     tries = λ reader block end tries some own any also at next. inl (none-try supply.stored reader block end);
     comes_back = λ block end any also at. inl refl;
-    edges = λ given saved block edge any also at. inl (none-edge is_need others_check halting auto given saved edge block);
+    edges = λ given saved block edge any also at. inl (none-edge is_need others_check refl halting auto given saved edge block);
     accepts = λ accept block any also at. inl (none-accept is_need others_check auto accept.ops block);
     choices = λ leaves choices any at. inl (none-fallback is_need others_check leaves choices);
     restores = λ block any at. inl refl;

@@ -95,7 +95,7 @@ module _ (halting : Halting) (auto : Auto) (saved_list : List Accept) (place : �
       let own : slice_get blocks from ≡ Some first = stands.0 in
       let same : code ≡ first = cc in
       ap needed same
-      ∙ none_needed first (none-edge is_need others_check halting auto given (kept_number halting saved_list given.accept) class (place class.to))
+      ∙ none_needed first (none-edge is_need others_check refl halting auto given (kept_number halting saved_list given.accept) class (place class.to))
 
 -- ---- the whole
 

@@ -204,10 +204,10 @@ module _ (piece : Piece) (format : Format) (supply : Supply) (halting : Halting)
   edge_bare s class block =
       let given : State = state_of auto.states s in
       let saved : Option ℕ = kept_number halting (saved_accepts halting auto.states) (state_of auto.states s).accept in record {
-        peeks = none-edge is_peek others_peek halting auto (state_of auto.states s)
+        peeks = none-edge is_peek others_peek refl halting auto (state_of auto.states s)
             (kept_number halting (saved_accepts halting auto.states) (state_of auto.states s).accept) class block;
         asks = questions_none (edge_code halting auto given saved class block)
-            (none-edge is_first_test others_first halting auto (state_of auto.states s)
+            (none-edge is_first_test others_first refl halting auto (state_of auto.states s)
             (kept_number halting (saved_accepts halting auto.states) (state_of auto.states s).accept) class block);
       }
 

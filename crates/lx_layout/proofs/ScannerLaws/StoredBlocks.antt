@@ -90,7 +90,7 @@ module _ (supply : Supply) (R : Reader → ℕ → Type 0) where
     tries = λ reader block end tries some own any also at next. stores_try supply.stored refl reader block end at tries some own;
     comes_back = λ block end any also at. stores_none at (back_code block end) refl;
     edges = λ given saved block edge any also at.
-        stores_none at (edge_code halting auto given saved edge block) (none-edge is_state others_store halting auto given saved edge block);
+        stores_none at (edge_code halting auto given saved edge block) (none-edge is_state others_store refl halting auto given saved edge block);
     accepts = λ accept block any also at. stores_none at (accept_code auto accept.ops block) (none-accept is_state others_store auto accept.ops block);
     choices = λ leaves choices any at. stores_none at (fallback_code leaves choices) (none-fallback is_state others_store leaves choices);
     restores = λ block any at. stores_none at (restore_code block) refl;

@@ -1,4 +1,4 @@
--- Code that all layouts have reads and tests no unit, asks for no refill and stores no state.
+-- Code that all layouts have reads, passes and tests no unit, asks for no refill and stores no state; on an edge one unit is passed.
 use Rattle.std.specs.Prelude.{◌≡◌, ℕ, zero, suc, Bool, true, false, List, [], ◌∷◌, Option, Some, None, ◌||◌, refl}
 use Rattle.std.proofs.Common.{ap, ◌∙◌}
 use Rattle.std.specs.List.{AllByRecursion, list_any}
@@ -10,16 +10,18 @@ use Rattle.lx_auto.specs.declared.automaton.State.{State}
 use Rattle.lx_auto.specs.declared.ops.Op.{Op}
 use Rattle.lx_auto.specs.declared.ops.Op.TheVariants.{Here, Null, Copy, MHere, MNull, MCopy}
 use Rattle.lx_ccode.specs.declared.piece.Stmt.{Stmt}
-use Rattle.lx_ccode.specs.declared.piece.Stmt.TheVariants.{Goto, IfIs, IfSet, IfUnit, Need, Peek, Skip, State as Store, Switch, Try}
+use Rattle.lx_ccode.specs.declared.piece.Stmt.TheVariants.{Accept as SaveAccept, Backup, Goto, IfEnd, IfIs, IfSet, IfUnit, Need, Peek, Skip, State as Store, Switch, Try}
 use Rattle.lx_sequence.specs.ParallelCopies.{sequentialized}
-use Rattle.lx_layout.specs.Codes.{Choice, accept_code, list_code, ops_code, save_code}
+use Rattle.lx_layout.specs.Codes.{Choice, accept_code, list_code, op_code, ops_code, save_code}
 use Rattle.lx_layout.specs.Endings.{Ending, action_code, back_code, cond_code, ending_code, ends_code, groups_code, is_slash, last_code, slash_held, tag_code, tags_code, unless}
 use Rattle.lx_layout.specs.Fallback.{edge_code, fallback_code}
 use Rattle.lx_layout.specs.Halting.{Halting, saves_on}
 
--- all statements but those that read or test a unit, ask for a refill or store a state
+-- all statements but those that read, pass or test a unit, ask whether one is left or for a refill, or store a state
 abbrev pub is_common : Stmt → Bool
 is_common Peek = false
+is_common Skip = false
+is_common (IfEnd block) = false
 is_common (Need units) = false
 is_common (Try block) = false
 is_common (Store state) = false
@@ -34,26 +36,17 @@ AreCommon code = AllByRecursion (λ statement. is_common statement ≡ true) cod
 
 -- ---- the sorts of code
 
+op_common : (op : Op) → is_common (op_code op) ≡ true
+op_common (Here reg) = refl
+op_common (Null reg) = refl
+op_common (Copy reg source) = refl
+op_common (MHere mreg) = refl
+op_common (MNull mreg) = refl
+op_common (MCopy mreg source) = refl
+
 ops_common : (ops : List Op) (rest : List Stmt) → AreCommon rest → AreCommon (ops_code ops rest)
 ops_common [] rest h = h
-ops_common (Here reg ∷ ops) rest h = (refl, ops_common ops rest h)
-ops_common (Null reg ∷ ops) rest h = (refl, ops_common ops rest h)
-ops_common (Copy reg source ∷ ops) rest h = (refl, ops_common ops rest h)
-ops_common (MHere mreg ∷ ops) rest h = (refl, ops_common ops rest h)
-ops_common (MNull mreg ∷ ops) rest h = (refl, ops_common ops rest h)
-ops_common (MCopy mreg source ∷ ops) rest h = (refl, ops_common ops rest h)
-
-save_common : (saves : Bool) (saved : Option ℕ) (rest : List Stmt) → AreCommon rest → AreCommon (save_code saves saved rest)
-save_common false saved rest h = h
-save_common true None rest h = (refl, h)
-save_common true (Some saved) rest h = (refl, (refl, h))
-
-edge_common : (halting : Halting) (auto : Auto) (given : State) (saved : Option ℕ) (edge : Edge) (block : ℕ)
-    → AreCommon (edge_code halting auto given saved edge block)
-edge_common halting auto given saved edge block =
-    save_common (saves_on halting given edge) saved (list_code auto given.leave (list_code auto edge.ops (Skip ∷ Goto block ∷ [])))
-    (ops_common (sequentialized auto.regs auto.mregs given.leave) (list_code auto edge.ops (Skip ∷ Goto block ∷ []))
-    (ops_common (sequentialized auto.regs auto.mregs edge.ops) (Skip ∷ Goto block ∷ []) (refl, (refl, tt))))
+ops_common (op ∷ ops) rest h = (op_common op, ops_common ops rest h)
 
 fallback_common : (leaves : Bool) (choices : List Choice) → AreCommon (fallback_code leaves choices)
 fallback_common leaves [] = (refl, tt)
@@ -112,10 +105,26 @@ module _ (test : Stmt → Bool) (others : (statement : Stmt) → is_common state
   none_common [] h = refl
   none_common (statement ∷ code) h = ap (λ t. t || list_any test code) (others statement h.0) ∙ none_common code h.1
 
-  pub none-edge : (halting : Halting) (auto : Auto) (given : State) (saved : Option ℕ) (edge : Edge) (block : ℕ)
+  none_ops : (ops : List Op) (rest : List Stmt) → list_any test rest ≡ false → list_any test (ops_code ops rest) ≡ false
+  none_ops [] rest none = none
+  none_ops (op ∷ ops) rest none =
+      ap (λ t. t || list_any test (ops_code ops rest)) (others (op_code op) (op_common op)) ∙ none_ops ops rest none
+
+  none_save : (saves : Bool) (saved : Option ℕ) (rest : List Stmt) → list_any test rest ≡ false → list_any test (save_code saves saved rest) ≡ false
+  none_save false saved rest none = none
+  none_save true None rest none = ap (λ t. t || list_any test rest) (others Backup refl) ∙ none
+  none_save true (Some number) rest none =
+      ap (λ t. t || (test (SaveAccept number) || list_any test rest)) (others Backup refl)
+      ∙ ap (λ t. t || list_any test rest) (others (SaveAccept number) refl) ∙ none
+
+  pub none-edge : test Skip ≡ false → (halting : Halting) (auto : Auto) (given : State) (saved : Option ℕ) (edge : Edge) (block : ℕ)
       → list_any test (edge_code halting auto given saved edge block) ≡ false
-  none-edge halting auto given saved edge block =
-      none_common (edge_code halting auto given saved edge block) (edge_common halting auto given saved edge block)
+  none-edge passes halting auto given saved edge block =
+      let last : List Stmt = Skip ∷ Goto block ∷ [] in
+      none_save (saves_on halting given edge) saved (list_code auto given.leave (list_code auto edge.ops (Skip ∷ Goto block ∷ [])))
+      (none_ops (sequentialized auto.regs auto.mregs given.leave) (list_code auto edge.ops (Skip ∷ Goto block ∷ []))
+      (none_ops (sequentialized auto.regs auto.mregs edge.ops) last
+      (ap (λ t. t || list_any test (Goto block ∷ [])) passes ∙ none_common (Goto block ∷ []) (refl, tt))))
 
   pub none-accept : (auto : Auto) (ops : List Op) (block : ℕ) → list_any test (accept_code auto ops block) ≡ false
   none-accept auto ops block =

@@ -55,7 +55,7 @@ module _ (Home : ℕ → Type 0) where
     tries = λ reader block end tries some own any also at next. never (try_code supply.stored reader block end) at (peeks-try supply.stored reader block end);
     comes_back = λ block end any also at some. absurd (true≢false (sym some));
     edges = λ given saved block edge any also at.
-        never (edge_code halting auto given saved edge block) at (none-edge is_peek others_peek halting auto given saved edge block);
+        never (edge_code halting auto given saved edge block) at (none-edge is_peek others_peek refl halting auto given saved edge block);
     accepts = λ accept block any also at. never (accept_code auto accept.ops block) at (none-accept is_peek others_peek auto accept.ops block);
     choices = λ leaves choices any at. never (fallback_code leaves choices) at (none-fallback is_peek others_peek leaves choices);
     restores = λ block any at some. absurd (true≢false (sym some));

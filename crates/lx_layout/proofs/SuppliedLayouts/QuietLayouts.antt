@@ -48,7 +48,7 @@ quiet_sorts supply halting endings auto fixed = record {
   tries = λ reader block end tries some own any also at next. absurd (true≢false (sym tries ∙ fixed));
   comes_back = λ block end any also at. (refl, refl);
   edges = λ given saved block edge any also at.
-      (none-edge is_refill others_ask halting auto given saved edge block, none-edge is_state others_store halting auto given saved edge block);
+      (none-edge is_refill others_ask refl halting auto given saved edge block, none-edge is_state others_store refl halting auto given saved edge block);
   accepts = λ accept block any also at. (none-accept is_refill others_ask auto accept.ops block, none-accept is_state others_store auto accept.ops block);
   choices = λ leaves choices any at. (none-fallback is_refill others_ask leaves choices, none-fallback is_state others_store leaves choices);
   restores = λ block any at. (refl, refl);

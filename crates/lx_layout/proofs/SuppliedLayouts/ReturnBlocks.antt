@@ -69,7 +69,7 @@ module _ (B : ℕ → Type 0) where
     tries = λ reader block end tries some own there also at next. comes-try supply.stored reader block end at next;
     comes_back = λ block end there also at. comes_any at (back_code block end) refl;
     edges = λ given saved block edge any to at.
-        comes_any at (edge_code halting auto given saved edge block) (none-edge is_state others_store halting auto given saved edge block);
+        comes_any at (edge_code halting auto given saved edge block) (none-edge is_state others_store refl halting auto given saved edge block);
     accepts = λ accept block any to at. comes_any at (accept_code auto accept.ops block) (none-accept is_state others_store auto accept.ops block);
     choices = λ leaves choices to at. comes_any at (fallback_code leaves choices) (none-fallback is_state others_store leaves choices);
     restores = λ block to at. comes_any at (restore_code block) refl;

@@ -1,12 +1,12 @@
--- A layout that reads a unit asks for units before, or for a refill at the end, where all that reads does.
-use Rattle.std.specs.Prelude.{◌≡◌, ◌⊎◌, ℕ, suc, ◌+◌, Bool, true, false, List, [], ◌∷◌, ◌++◌, Option, Some, None, refl}
-use Rattle.std.proofs.Common.{inl, inr, subst, sym}
+-- A layout that reads units asks for them before, or for a refill at the end, where all that reads does.
+use Rattle.std.specs.Prelude.{◌≡◌, ◌⊎◌, ℕ, suc, ◌+◌, Bool, true, List, [], ◌∷◌, ◌++◌, Option, Some, None, refl}
+use Rattle.std.proofs.Common.{ap, inl, inr, subst, sym}
 use Rattle.std.proofs.lemmas.Bool.{false≢true}
 use Rattle.lx_auto.specs.Automaton.{state_of}
 use Rattle.lx_auto.specs.declared.automaton.Auto.{Auto}
 use Rattle.lx_auto.specs.declared.automaton.Edge.{Edge}
 use Rattle.lx_auto.specs.declared.automaton.State.{State}
-use Rattle.lx_ccode.specs.Counts.{is_peek}
+use Rattle.lx_ccode.specs.Statements.{is_reading}
 use Rattle.lx_ccode.specs.declared.piece.Stmt.{Stmt}
 use Rattle.lx_layout.specs.Endings.{Ending}
 use Rattle.lx_layout.specs.Halting.{Halting, ended_accepts, halted_accept, is_entered, saved_accepts}
@@ -15,9 +15,8 @@ use Rattle.lx_layout.specs.SuppliedLayout.{at_end_blocks, blocks_by, class_block
 use Rattle.lx_layout.specs.Supplies.{Reader, Supply, entry, state}
 use Rattle.lx_dispatch.specs.TestTrees.{TestTree}
 use Rattle.lx_dispatch.specs.TransitionClasses.{transition_classes}
-use Rattle.lx_layout.proofs.PartLayouts.AskedLayouts.{Has, has-back, has-front, has-split, no_peek}
-use Rattle.lx_layout.proofs.PartLayouts.CalmBlocks.{Calm, calm_classes, calm_end, calm_lone, calm_rest}
-use Rattle.lx_layout.proofs.Validity.EachElement.{each-append}
+use Rattle.lx_layout.proofs.PartLayouts.AskedLayouts.{Has, has-back, has-front, has-nowhere, has-split}
+use Rattle.lx_layout.proofs.PartLayouts.StillBlocks.{still_lone, still_rest}
 
 either : {A B C : Type 0} → A ⊎ B → (A → C) → (B → C) → C
 either (inl a) f g = f a
@@ -53,32 +52,11 @@ module _ (passes : Stmt → Bool) (supply : Supply) (halting : Halting) (endings
         (λ h. has-back passes tests_row (classes_row ++ (turn_row ++ end_row))
         (has-back passes classes_row (turn_row ++ end_row) (has-front passes turn_row end_row (kept_true (is_entered end_rule auto s) _ entered h))))
 
-    state_peeks : (s from : ℕ) (given : State) (edges : List Edge) → ((edges ≡ [] → ⊥) → Passes (state s) (supply.check s))
-        → Has is_peek (own_blocks s from given edges) → Has passes (own_blocks s from given edges)
-    state_peeks s from given [] asks h = absurd (no_peek _ (calm_lone halting endings auto rules fall (lone_number end_rule s) given.accept) h)
-    state_peeks s from given (edge ∷ edges) asks h = by (is_entered end_rule auto s) refl
-      where
-        none_kept : (tests turn : List (List Stmt)) → Has is_peek (kept false tests
-            ++ (class_blocks halting auto (saved_accepts halting auto.states) place given (transition_classes (edge ∷ edges))
-            ++ (kept false turn ++ end_blocks auto rules fall (halted_accept halting s given)))) → ⊥
-        none_kept tests turn g =
-            no_peek _ (each-append Calm (class_blocks halting auto (saved_accepts halting auto.states) place given (transition_classes (edge ∷ edges)))
-            (end_blocks auto rules fall (halted_accept halting s given))
-            (calm_classes halting endings auto (saved_accepts halting auto.states) place given (transition_classes (edge ∷ edges)))
-            (calm_end halting endings auto rules fall (halted_accept halting s given))) g
-
-        by : (t : Bool) → is_entered end_rule auto s ≡ t → Has passes (own_blocks s from given (edge ∷ edges))
-        by true entered = state_passes s from given edge edges entered (asks (λ e. absurd (cc)))
-        by false entered =
-            let tests : List (List Stmt) = reader_blocks supply.stored (state s) supply.eof (supply.check s) from
-            (with_blocks (state_way supply halting end_rule trees auto rules fall begin s from given) (trees (state s))) in
-            let turn : List (List Stmt) = at_end_blocks supply (state s) from (turn_begin supply halting end_rule trees auto s from given.edges)
-            (state_to supply halting end_rule trees auto rules fall begin s from given)
-            (state_end supply halting end_rule trees auto rules fall begin s from given) in
-            absurd (none_kept tests turn
-            (subst (λ t. Has is_peek (kept t tests
-            ++ (class_blocks halting auto (saved_accepts halting auto.states) place given (transition_classes (edge ∷ edges))
-            ++ (kept t turn ++ end_blocks auto rules fall (halted_accept halting s given))))) entered h))
+    state_reads : (s from : ℕ) (given : State) (edges : List Edge) → is_entered end_rule auto s ≡ true
+        → ((edges ≡ [] → ⊥) → Passes (state s) (supply.check s)) → Has is_reading (own_blocks s from given edges) → Has passes (own_blocks s from given edges)
+    state_reads s from given [] entered asks h =
+        absurd (has-nowhere is_reading _ (still_lone halting endings auto rules fall (lone_number end_rule s) given.accept) h)
+    state_reads s from given (edge ∷ edges) entered asks h = state_passes s from given edge edges entered (asks (λ e. absurd (cc)))
 
     -- what is asked of each state that has an edge
     abbrev pub EachPasses : (s : ℕ) → List State → Type 0
@@ -88,14 +66,15 @@ module _ (passes : Stmt → Bool) (supply : Supply) (halting : Halting) (endings
     abbrev all_blocks : (s from : ℕ) → List State → List (List Stmt)
     all_blocks s from states = states_blocks supply halting end_rule trees auto rules fall begin (saved_accepts halting auto.states) place s from states
 
-    states_peek : (s from : ℕ) (states : List State) → EachPasses s states → Has is_peek (all_blocks s from states) → Has passes (all_blocks s from states)
-    states_peek s from [] asks h = absurd (false≢true h)
-    states_peek s from (given ∷ states) asks h =
-        either (has-split is_peek (own_blocks s from given given.edges) (all_blocks (suc s) (from + state_size supply halting end_rule trees auto s given) states) h)
+    states_read : (s from : ℕ) (states : List State) → ((s : ℕ) → is_entered end_rule auto s ≡ true) → EachPasses s states
+        → Has is_reading (all_blocks s from states) → Has passes (all_blocks s from states)
+    states_read s from [] entered asks h = absurd (false≢true h)
+    states_read s from (given ∷ states) entered asks h =
+        either (has-split is_reading (own_blocks s from given given.edges) (all_blocks (suc s) (from + state_size supply halting end_rule trees auto s given) states) h)
         (λ g. has-front passes (own_blocks s from given given.edges) (all_blocks (suc s) (from + state_size supply halting end_rule trees auto s given) states)
-        (state_peeks s from given given.edges asks.0 g))
+        (state_reads s from given given.edges (entered s) asks.0 g))
         (λ g. has-back passes (own_blocks s from given given.edges) (all_blocks (suc s) (from + state_size supply halting end_rule trees auto s given) states)
-        (states_peek (suc s) (from + state_size supply halting end_rule trees auto s given) states asks.1 g))
+        (states_read (suc s) (from + state_size supply halting end_rule trees auto s given) states entered asks.1 g))
 
     -- if state 0 has an edge
     first_passes : (from : ℕ) (states : List State) → ((state_of states 0).edges ≡ [] → ⊥) → is_entered end_rule auto 0 ≡ true
@@ -130,32 +109,41 @@ module _ (passes : Stmt → Bool) (supply : Supply) (halting : Halting) (endings
         ++ (restore_blocks (rule_block supply halting end_rule trees auto begin) (saved_accepts halting auto.states)
         ++ (ending_blocks endings (ended_accepts halting auto.states) ++ end_rule_part endings end_rule))
 
-    entry_passes : (o : Option ℕ) → ((rule : ℕ) → o ≡ Some rule → Passes entry 0) → Has is_peek (entry_part supply halting end_rule trees auto begin o)
-        → Has passes (entry_part supply halting end_rule trees auto begin o)
-    entry_passes None asks h = absurd (false≢true h)
-    entry_passes (Some rule) asks h =
+    -- where a rule stands at the end, the entry reads in any case
+    entry_passes : (o : Option ℕ) (rule : ℕ) → o ≡ Some rule → Passes entry 0 → Has passes (entry_part supply halting end_rule trees auto begin o)
+    entry_passes None rule e asks = absurd (cc)
+    entry_passes (Some other) rule e asks =
         let way = entry_way supply halting end_rule trees auto rule_at fall_at begin start (state_of auto.states 0) in
         let tests_row : List (List Stmt) = reader_blocks supply.stored entry supply.eof 0 begin (with_blocks way (trees entry)) in
         let turn_row : List (List Stmt) = at_end_blocks supply entry begin (begin + entry_tests_size supply halting end_rule trees auto)
         (state_to supply halting end_rule trees auto rule_at fall_at begin 0 start (state_of auto.states 0))
         (end_rule_block supply halting end_rule trees auto begin) in
-        either (asks rule refl begin begin (begin + entry_tests_size supply halting end_rule trees auto) (with_blocks way (trees entry))
+        either (asks begin begin (begin + entry_tests_size supply halting end_rule trees auto) (with_blocks way (trees entry))
         (state_to supply halting end_rule trees auto rule_at fall_at begin 0 start (state_of auto.states 0))
         (end_rule_block supply halting end_rule trees auto begin))
         (λ g. has-front passes tests_row turn_row g) (λ g. has-back passes tests_row turn_row g)
 
-    pub layout_peeks : ((rule : ℕ) → end_rule ≡ Some rule → Passes entry 0) → EachPasses rule_at fall_at begin place_at 0 auto.states
-        → Has is_peek (supplied_layout supply halting endings end_rule trees auto begin)
+    pub layout_reads : ((rule : ℕ) → end_rule ≡ Some rule → Passes entry 0) → EachPasses rule_at fall_at begin place_at 0 auto.states
+        → Has is_reading (supplied_layout supply halting endings end_rule trees auto begin)
         → Has passes (supplied_layout supply halting endings end_rule trees auto begin)
-    layout_peeks entry_asks asks h =
-        let first : List (List Stmt) = entry_part supply halting end_rule trees auto begin end_rule in
-        let states : List (List Stmt) = states_part supply halting end_rule trees auto begin in
-        either (has-split is_peek first (states ++ rest) h)
-        (λ g. has-front passes first (states ++ rest) (entry_passes end_rule entry_asks g))
-        (λ g. has-back passes first (states ++ rest)
-        (either (has-split is_peek states rest g)
-        (λ k. has-front passes states rest (states_peek rule_at fall_at begin place_at 0 start auto.states asks k))
-        (λ k. absurd (no_peek rest (calm_rest halting endings auto rule_at (first_restore supply halting end_rule trees auto begin) end_rule) k))))
+    layout_reads entry_asks asks h = by end_rule refl
+      where
+        first : List (List Stmt)
+        first = entry_part supply halting end_rule trees auto begin end_rule
+
+        states : List (List Stmt)
+        states = states_part supply halting end_rule trees auto begin
+
+        by : (o : Option ℕ) → end_rule ≡ o → Has passes (supplied_layout supply halting endings end_rule trees auto begin)
+        by (Some rule) e = has-front passes first (states ++ rest) (entry_passes end_rule rule e (entry_asks rule e))
+        by None e =
+            either (has-split is_reading first (states ++ rest) h)
+            (λ g. absurd (false≢true (subst (λ o. Has is_reading (entry_part supply halting end_rule trees auto begin o)) e g)))
+            (λ g. has-back passes first (states ++ rest)
+            (either (has-split is_reading states rest g)
+            (λ k. has-front passes states rest
+            (states_read rule_at fall_at begin place_at 0 start auto.states (λ s. ap (λ o. is_entered o auto s) e) asks k))
+            (λ k. absurd (has-nowhere is_reading rest (still_rest halting endings auto rule_at (first_restore supply halting end_rule trees auto begin) end_rule) k))))
 
     pub layout_starts : ((state_of auto.states 0).edges ≡ [] → ⊥) → is_entered end_rule auto 0 ≡ true → Passes (state 0) (supply.check 0)
         → Has passes (supplied_layout supply halting endings end_rule trees auto begin)
