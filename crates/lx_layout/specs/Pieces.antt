@@ -13,6 +13,7 @@ use Rattle.lx_base.specs.declared.settings.Format.{Format}
 use Rattle.lx_base.specs.declared.settings.Format.TheVariants.{Two}
 use Rattle.lx_ccode.specs.Counts.{mregs_of, regs_of, state_count}
 use Rattle.lx_ccode.specs.Runs.{entry_block}
+use Rattle.lx_ccode.specs.Schedules.{ReadsUnasked}
 use Rattle.lx_ccode.specs.States.{states_from}
 use Rattle.lx_ccode.specs.Statements.{all_statements, has_register_one, is_refill, is_state}
 use Rattle.lx_ccode.specs.Validity.{IsLabel, IsLine, IsShort, IsValid}
@@ -238,12 +239,14 @@ abbrev pub IsActionOf : List Source → Stmt → Type 0
 IsActionOf scanners statement = (scanner : Source) × Contains scanners scanner × IsOwnAction scanner.endings statement
 
 -- The piece of scanners is valid, and each of them stands in it. The states that it stores are numbered from the first number on, in
--- their order; it stores one before each refill, or none. What a match kept is forgotten before another one begins by a jump.
+-- their order; it stores one before each refill, or none. Where refills are asked for it asks for some, if it reads units. What a match
+-- kept is forgotten before another one begins by a jump.
 pub record IsPieceOf (form : Form) (scanners : List Source) (piece : Piece) : Type 0 where
   pub valid : IsValid piece
   pub fields : HasFields form (conds_of scanners) piece
   pub numbered : map (λ case. case.state) (states_from 0 piece.blocks) ≡ range_with_len form.first_state (state_count piece.blocks)
   pub stored : list_any is_state (all_statements piece.blocks) ≡ form.stores && list_any is_refill (all_statements piece.blocks)
+  pub asks : ReadsUnasked piece → form.fill ≡ false
   pub forgets : JumpsForget piece.blocks
   pub actions : AllByRecursion (IsActionOf scanners) (all_statements piece.blocks)
   pub stand : AllByRecursion (λ (scanner : Source).

@@ -105,3 +105,13 @@ refills_none (statement ∷ code) needs tries = by (is_need statement) (is_try s
     by true try e f again = absurd (false≢true (sym e))
     by false true e f again = absurd (false≢true (sym f))
     by false false e f again = again e f
+
+pub none_refills : (code : List Stmt) → list_any is_refill code ≡ false → (list_any is_need code ≡ false) × (list_any is_try code ≡ false)
+none_refills [] none = (refl, refl)
+none_refills (statement ∷ code) none = by (is_need statement) (is_try statement) (none_refills code) none
+  where
+    by : (need try : Bool) → (list_any is_refill code ≡ false → (list_any is_need code ≡ false) × (list_any is_try code ≡ false))
+        → ((need || try) || list_any is_refill code) ≡ false → ((need || list_any is_need code) ≡ false) × ((try || list_any is_try code) ≡ false)
+    by true try again none = absurd (false≢true (sym none))
+    by false true again none = absurd (false≢true (sym none))
+    by false false again none = again none

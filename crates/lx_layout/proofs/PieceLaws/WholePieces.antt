@@ -14,8 +14,9 @@ use Rattle.lx_base.specs.declared.limits.TheConstants.{STATEMENT_LIMIT}
 use Rattle.lx_ccode.specs.Counts.{state_count, table_size}
 use Rattle.lx_ccode.specs.Heads.{is_format_three}
 use Rattle.lx_ccode.specs.Labels.{is_like_block}
+use Rattle.lx_ccode.specs.Schedules.{ReadsUnasked}
 use Rattle.lx_ccode.specs.States.{states_from}
-use Rattle.lx_ccode.specs.Statements.{all_statements, has_register_one, is_refill, is_state, statement_count}
+use Rattle.lx_ccode.specs.Statements.{all_statements, has_register_one, is_need, is_refill, is_state, is_try, statement_count}
 use Rattle.lx_ccode.specs.Validity.{IsLine, IsLong, IsShort, IsValid, labels}
 use Rattle.lx_ccode.specs.declared.piece.Mode.{Mode}
 use Rattle.lx_ccode.specs.declared.piece.Mode.TheVariants.{Count, Eof, EofFixed, Plain}
@@ -35,7 +36,7 @@ use Rattle.lx_layout.specs.Switches.{cond_cases}
 use Rattle.lx_layout.specs.Writable.{PartsCanBeWritten}
 use Rattle.lx_layout.proofs.Jumps.ForgettingSources.{conds_of-in, fit_in}
 use Rattle.lx_layout.proofs.LiveBlocks.LivePieces.{parts_live, parts_met}
-use Rattle.lx_layout.proofs.PartLayouts.AskingParts.{needs_none, refills_after, states_before, tries_none}
+use Rattle.lx_layout.proofs.PartLayouts.AskingParts.{needs_none, reads_need, reads_try, refills_after, states_before, tries_none}
 use Rattle.lx_layout.proofs.PartLayouts.ClosedParts.{all_end}
 use Rattle.lx_layout.proofs.PartLayouts.OwnRegisters.{parts_own}
 use Rattle.lx_layout.proofs.PartLayouts.PartBlocks.{of_parts, of_statements}
@@ -49,7 +50,7 @@ use Rattle.lx_layout.proofs.PieceLaws.FitParts.{all_eof, all_formats, all_store,
 use Rattle.lx_layout.proofs.PieceLaws.ScannerEntries.{AreDifferent, BeginsAt, cases_of, conds_distinct, parts_enter}
 use Rattle.lx_layout.proofs.PieceLaws.EachScanner.{conds_differ, parts_act, parts_in, same_conds, same_length}
 use Rattle.lx_layout.proofs.PieceLaws.OneScanner.{FitsForm}
-use Rattle.lx_layout.proofs.PieceLaws.StoredRefills.{refills_none, stored_blocks}
+use Rattle.lx_layout.proofs.PieceLaws.StoredRefills.{none_refills, refills_none, stored_blocks}
 use Rattle.lx_layout.proofs.PieceLaws.TableTags.{no_table_tags}
 use Rattle.lx_layout.proofs.Validity.EachElement.{each-map}
 
@@ -187,6 +188,22 @@ module _ (form : Form) (given : List Source) (parts : List Part) (piece : Piece)
       by (Some unit) false suits e = quiet EofFixed (λ other. absurd (cc)) (λ other. absurd (cc)) suits
       by o true suits e = absurd (false≢true (sym e))
 
+  -- what reads units asks for some where refills are asked for
+  asks : ReadsUnasked piece → form.fill ≡ false
+  asks unasked = by form.eof form.fill suit
+    where
+      none : (list_any is_need (all_statements piece.blocks) ≡ false) × (list_any is_try (all_statements piece.blocks) ≡ false)
+      none = none_refills (all_statements piece.blocks) unasked.1
+
+      by : (o : Option ℕ) (t : Bool) → AllByRecursion (Suits (mode_of o t)) parts → t ≡ false
+      by o false suits = refl
+      by None true suits =
+          let needs = reads_need greatest form.first_state parts piece.blocks are_parts suits blocks unasked.0 in
+          absurd (false≢true (sym none.0 ∙ needs))
+      by (Some unit) true suits =
+          let tries = reads_try form.first_state parts piece.blocks suits blocks unasked.0 in
+          absurd (false≢true (sym none.1 ∙ tries))
+
   numbered : map (λ case. case.state) (states_from 0 piece.blocks) ≡ range_with_len form.first_state (state_count piece.blocks)
   numbered = by form.stores store
     where
@@ -244,6 +261,7 @@ module _ (form : Form) (given : List Source) (parts : List Part) (piece : Piece)
         ∙ conds_of-in piece.blocks given) fields;
     numbered = numbered;
     stored = stored;
+    asks = asks;
     forgets = forgets;
     actions = actions;
     stand = stand;
