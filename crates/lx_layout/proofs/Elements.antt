@@ -1,5 +1,5 @@
 -- What holds at each place of a list.
-use Rattle.std.specs.Prelude.{ℕ, zero, suc, List, [], ◌∷◌, All}
+use Rattle.std.specs.Prelude.{suc, List, [], ◌∷◌, All}
 use Rattle.std.proofs.Common.{arith}
 use Rattle.std.specs.List.{AllByRecursion}
 
