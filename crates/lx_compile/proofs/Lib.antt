@@ -4,6 +4,7 @@ pub mod BlockStops
 pub mod Compilations
 pub mod ConditionNames
 pub mod CopiedAutomata
+pub mod EmittedRuns
 pub mod FaultsPlaced
 pub mod FirstAutos
 pub mod FoundPieces

@@ -1,15 +1,22 @@
 //! What holds of the faults and the outputs of all sources: each law is the contract of a function with an empty body.
-ghost use Rattle.std.specs.Prelude.{◌≡◌, ℕ, true, All, List, [], ◌∷◌, ◌++◌, Option, Some, IfSome};
+ghost use Rattle.std.specs.Prelude.{◌≡◌, ◌≤◌, ℕ, true, All, List, [], ◌∷◌, ◌++◌, Option, Some, IfSome};
 ghost use Rattle.lx_base.specs.Message.{IsPlaced};
 ghost use Rattle.lx_base.specs.declared.faults.Fault.{Fault};
 ghost use Rattle.lx_base.specs.declared.settings.Options.{Options};
+ghost use Rattle.lx_ccode.specs.declared.piece.LineMark.{LineMark};
+ghost use Rattle.lx_ccode.specs.declared.piece.Piece.{Piece};
 ghost use Rattle.lx_creader.specs.Cut.{AreCut, HasNoOpener, parts_text};
 ghost use Rattle.lx_files.specs.Held.{bytes_of};
 ghost use Rattle.lx_files.specs.declared.files.HeldFile.{HeldFile};
+ghost use Rattle.lx_rules.specs.declared.resolved.Resolved.{Resolved};
+ghost use Rattle.lx_run.specs.MatchRuns.{HoldsWhatItReads, IsOfRun, MayStart};
+ghost use Rattle.lx_run.specs.Readings.{Reading};
+ghost use Rattle.lx_run.specs.Texts.{Between, beginning};
 ghost use Rattle.lx_split.specs.Includes.{expansion};
 ghost use Rattle.lx_split.specs.Openers.{from_opener};
 ghost use Rattle.lx_compile.specs.Cut.{IsFound, output_parts};
 ghost use Rattle.lx_compile.specs.FirstFault.{AreMadeOf, IsFirstFault};
+ghost use Rattle.lx_compile.specs.Made.{IsScannerPiece, Setting};
 ghost use Rattle.lx_compile.specs.Options.{names_output, out_name};
 ghost use Rattle.lx_compile.specs.Output.{IsGiven, IsOutput, last_names};
 ghost use Rattle.lx_compile.specs.Warnings.{IsPlacedWarning, quiet_made, quiet_options, told_warnings};
@@ -72,4 +79,14 @@ pub fn emitted_pieces_are_found()
         IfSome options.dir HasNoOpener → (names_output options ≡ true → HasNoOpener (out_name options)) →
         (is : IsOutput options seen main made output) → (earlier : List Made) (one : Made) (more : List Made) → made ≡ earlier ++ one ∷ more →
         IsFound (last_names is) (out_name options) made earlier one output }
+{}
+
+/// Each match of a run of an emitted piece may start: a piece that reads units, and never asks for a refill, has the whole stream in its
+/// window.
+pub fn matches_of_emitted_pieces_may_start()
+    ensures whole { (setting : Setting) (number first_state : ℕ) (line : Option LineMark) (resolved : Resolved) (piece : Piece) (checks : List (List ℕ)) →
+        IsScannerPiece setting number first_state line resolved piece checks → HoldsWhatItReads piece }
+    ensures start { (setting : Setting) (number first_state : ℕ) (line : Option LineMark) (resolved : Resolved) (piece : Piece) (checks : List (List ℕ)) →
+        IsScannerPiece setting number first_state line resolved piece checks → (reading : Reading) (between : Between) → 1 ≤ reading.step →
+        IsOfRun reading (beginning piece reading) between → MayStart piece reading between.start between.limit between.leaving }
 {}
