@@ -1,4 +1,5 @@
 -- What the loops of the code build.
+pub mod CutUnits
 pub mod EdgeLoops
 pub mod EdgeSteps
 pub mod EdgesMade

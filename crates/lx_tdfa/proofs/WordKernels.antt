@@ -5,6 +5,7 @@ pub mod CutRuns
 pub mod DistinctLists
 pub mod EndingRules
 pub mod FewKernels
+pub mod KernelBehind
 pub mod KernelSteps
 pub mod KernelWords
 pub mod KernelsListed

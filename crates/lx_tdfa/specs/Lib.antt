@@ -12,4 +12,5 @@ pub mod Searches
 pub mod Steps
 pub mod Table
 pub mod Values
+pub mod WordLists
 pub mod Words

@@ -1,19 +1,18 @@
-//! Lists of places, each with a number, and the limits on them.
+//! The limits on lists of places.
 ghost use Rattle.std.specs.Prelude.{◌≡◌, ◌<◌, [], ◌∷◌, ◌++◌, length, Contains, IfOk, MatchResult, Some, slice_get};
 ghost use Rattle.lx_tdfa.specs.Making.{Adds, AreMany, IsWithin, StopsBy, most_places};
 ghost use Rattle.lx_tnfa.specs.Equality.{TellsEqual};
 
-use indexmap::IndexSet;
+use crate::lists::Lists;
 use lx_base::limits::{KERNEL_LIMIT, PLACE_LIMIT};
 use lx_base::{Fault, Memory, Pos, Stop};
 use std::alloc::Global;
 use std::hash::Hash;
 use std::marker::Model;
 
-/// Lists of places, or of places with what else is kept of them, all different, each by its number. A list is found by its places in
-/// constant time, as far as hashes differ. Contracts see them as a list of lists.
+/// Lists within the limits of an automaton. Contracts see them as a list of lists.
 pub struct Kernels<P: Eq + Hash + Drop> {
-    lists: IndexSet<Vec<P>>,
+    lists: Lists<P>,
     /// How many places all of them have together.
     places: usize,
     /// How many places the longest one has.
@@ -32,14 +31,13 @@ impl<P: Eq + Hash + Drop> Drop for Kernels<P> {
 
 impl<P: Eq + Hash + Drop> Model for Kernels<P> {
     ghost use Rattle.std.specs.Prelude.{List, ◌≡◌, length, sum_by};
-    ghost use Rattle.lx_tdfa.specs.Making.{lists_of, most_places};
+    ghost use Rattle.lx_tdfa.specs.Making.{most_places};
 
     ghost Value = { List (List P) };
 
-    ghost view = { λ kernels. lists_of kernels.lists.keys };
+    ghost view = { λ kernels. kernels.lists };
 
-    ghost invariant = { λ kernels. (kernels.places ≡ sum_by length (lists_of kernels.lists.keys))
-        × (kernels.most ≡ most_places (lists_of kernels.lists.keys)) };
+    ghost invariant = { λ kernels. (kernels.places ≡ sum_by length kernels.lists) × (kernels.most ≡ most_places kernels.lists) };
 }
 
 impl<P: Eq + Hash + Drop> Kernels<P> {
@@ -48,10 +46,8 @@ impl<P: Eq + Hash + Drop> Kernels<P> {
         ensures { IfOk result (λ kernels. kernels ≡ places.items ∷ []) }
     {
         let count = places.len();
-        let mut lists = IndexSet::new(alloc);
-        lists.insert(places)?;
         Ok(Kernels {
-            lists,
+            lists: Lists::of(alloc, places)?,
             places: count,
             most: count,
         })
@@ -76,10 +72,7 @@ impl<P: Eq + Hash + Drop> Kernels<P> {
         requires { number < length self.now }
         ensures { Some result.now ≡ slice_get self.now number }
     {
-        match self.lists.get_index(number) {
-            Some(list) => list.as_slice(),
-            None => unreachable!(),
-        }
+        self.lists.get(number)
     }
 
     /// The number of a list, which is appended where it is not there yet. Where that makes more than 4,096 lists, or more than
@@ -91,10 +84,7 @@ impl<P: Eq + Hash + Drop> Kernels<P> {
             (StopsBy at (AreMany (self.old ++ places.items ∷ []) × ¬ Contains self.old places.items)) }
     {
         let count = places.len();
-        let (number, is_new) = match self.lists.insert_full(places) {
-            Ok(inserted) => inserted,
-            Err(_) => return Err(Stop::Memory),
-        };
+        let (number, is_new) = self.lists.put(places)?;
         if is_new {
             self.places += count;
             self.most = self.most.max(count);

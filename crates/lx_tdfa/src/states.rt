@@ -8,14 +8,13 @@ ghost use Rattle.lx_tdfa.specs.Building.{AreListed, AreTargets, Grows, IsEdgeMad
 ghost use Rattle.lx_tdfa.specs.Edges.{AreEdgesBefore};
 ghost use Rattle.lx_tdfa.specs.Making.{StopsBy, seen_ending, seen_step};
 ghost use Rattle.lx_tdfa.specs.Registers.{ending_ops, first_of, held_from, step_ops, widest};
-ghost use Rattle.lx_tdfa.specs.Steps.{places_of};
 ghost use Rattle.lx_tdfa.specs.Table.{IsStateOf, accept_of, is_first, leave_of, onward_by};
 
 use crate::cuts::{last_unit, merged_cuts};
 use crate::edges::push_edge;
 use crate::kernels::Kernels;
 use crate::operations::{Transfer, push_tags};
-use crate::steps::{Ending, Step, first_ending, next_steps};
+use crate::steps::{Ending, Step, first_ending, next_steps, step_places};
 use lx_auto::{Accept, Edge, Held, Ops, State};
 use lx_base::{Memory, Pos, Sequence, Stop};
 use lx_tnfa::{Place, Reach, Search, Tnfa, Visited};
@@ -155,17 +154,6 @@ impl<'a> Source<'a> {
         }
     }
 
-    /// The places to which steps lead.
-    fn places(&self, steps: &[Step<'_>]) -> Result<Vec<Place>, Memory>
-        ensures { IfOk result (λ places. places.items ≡ places_of (map seen_step steps.now)) }
-    {
-        let mut places = Vec::new(self.alloc);
-        for step in steps {
-            places.push(step.to)?;
-        }
-        Ok(places)
-    }
-
     /// The edge on units that all go on alike, if there is one; a list of places that is new becomes a state.
     fn edge(
         &self,
@@ -186,7 +174,7 @@ impl<'a> Source<'a> {
         if steps.is_empty() {
             return Ok(None);
         }
-        let to = kernels.add(self.places(&steps)?, self.at)?;
+        let to = kernels.add(step_places(self.alloc, &steps)?, self.at)?;
         Ok(Some(Edge {
             lo: units.lo,
             hi: units.hi,

@@ -2,7 +2,7 @@
 ghost use Rattle.std.specs.Prelude.{◌≡◌, IfOk, map, option_map};
 ghost use Rattle.lx_tnfa.specs.Closure.{AllPlaces, IsTarget};
 ghost use Rattle.lx_tdfa.specs.Making.{seen_ending, seen_step};
-ghost use Rattle.lx_tdfa.specs.Steps.{first_ending, next_steps, step_indices, step_on};
+ghost use Rattle.lx_tdfa.specs.Steps.{first_ending, next_steps, places_of, step_indices, step_on};
 
 use lx_base::Memory;
 use lx_tnfa::{Place, Reach, Target, Tnfa, Visited};
@@ -74,4 +74,15 @@ pub fn first_ending(reaches: &[Reach]) -> Option<Ending<'_>>
         }
     }
     None
+}
+
+/// The places to which steps lead. Its only error is want of memory.
+pub fn step_places(alloc: Global, steps: &[Step<'_>]) -> Result<Vec<Place>, Memory>
+    ensures { IfOk result (λ places. places.items ≡ places_of (map seen_step steps.now)) }
+{
+    let mut places = Vec::new(alloc);
+    for step in steps {
+        places.push(step.to)?;
+    }
+    Ok(places)
 }

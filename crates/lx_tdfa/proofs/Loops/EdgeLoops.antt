@@ -87,6 +87,34 @@ none_between [] first second each = tt
 none_between (cut ∷ cuts) first second each =
     (each 0 cut refl, none_between cuts first second (λ index other e. each (suc index) other e))
 
+-- no cut stands between that of a range and a unit before the next one
+pub range-none : (cuts : List ℕ) (index greatest last : ℕ) → IsAscending cuts → (range : IsRangeEnd cuts index greatest last) → (unit : ℕ)
+    → range.cut ≤ unit → StandsBefore (slice_get cuts (suc index)) unit → NoneBetween range.cut unit cuts
+range-none cuts index greatest last ascending range unit le before = none_between cuts range.cut unit each
+  where
+    each : (other cut : ℕ) → slice_get cuts other ≡ Some cut → (cut ≤ range.cut) ⊎ (unit < cut)
+    each other cut e = elim (le_or other index) [
+      | inl early ↦ inl (ascending other index cut range.cut early e range.first)
+      | inr later ↦ inr (past (slice_get cuts (suc index)) refl later)
+    ]
+      where
+        le_or : (a b : ℕ) → (a ≤ b) ⊎ (suc b ≤ a)
+        le_or zero b = inl (omega arith)
+        le_or (suc a) zero = inr (omega arith)
+        le_or (suc a) (suc b) = elim (le_or a b) [ inl x ↦ inl (omega (arith, x)) | inr y ↦ inr (omega (arith, y)) ]
+
+        past : (o : Option ℕ) → slice_get cuts (suc index) ≡ o → suc index ≤ other → unit < cut
+        past None none later = absurd (gone cuts (suc index) other cut later none e)
+          where
+            gone : (xs : List ℕ) (k m x : ℕ) → k ≤ m → slice_get xs k ≡ None → slice_get xs m ≡ Some x → ⊥
+            gone [] k m x le none some = cc
+            gone (y ∷ xs) zero m x le none some = cc
+            gone (y ∷ xs) (suc k) zero x le none some = omega arith
+            gone (y ∷ xs) (suc k) (suc m) x le none some = gone xs k m x (omega arith) none some
+        past (Some next) some later =
+            let lt : unit < next = subst (λ o. StandsBefore o unit) some before in
+            let up : next ≤ cut = ascending (suc index) other next cut later some e in omega (arith, lt, up)
+
 module _ {K : Type 0} (tnfa : Tnfa) (greatest : ℕ) (first : Bool) (onward : Onward K) (cuts : List ℕ) (separate : GoesOnAlike onward cuts)
     (ascending : IsAscending cuts) where
   pub edges-start : (lists : List K) → slice_get cuts 0 ≡ Some 0 → AreEdgesBefore tnfa greatest lists first onward (slice_get cuts 0) []
@@ -145,31 +173,8 @@ module _ {K : Type 0} (tnfa : Tnfa) (greatest : ℕ) (first : Bool) (onward : On
     same_steps : (unit : ℕ) → range.cut ≤ unit → StandsBefore (slice_get cuts (suc index)) unit
         → (onward.steps unit ≡ onward.steps range.cut) × (onward.next unit ≡ onward.next range.cut)
     same_steps unit le before =
-        let same = separate range.cut unit le (none_between cuts range.cut unit each) in
+        let same = separate range.cut unit le (range-none cuts index greatest last ascending range unit le before) in
         (sym same.0, sym same.1)
-      where
-        each : (other cut : ℕ) → slice_get cuts other ≡ Some cut → (cut ≤ range.cut) ⊎ (unit < cut)
-        each other cut e = elim (le_or other index) [
-          | inl early ↦ inl (ascending other index cut range.cut early e range.first)
-          | inr later ↦ inr (past (slice_get cuts (suc index)) refl later)
-        ]
-          where
-            le_or : (a b : ℕ) → (a ≤ b) ⊎ (suc b ≤ a)
-            le_or zero b = inl (omega arith)
-            le_or (suc a) zero = inr (omega arith)
-            le_or (suc a) (suc b) = elim (le_or a b) [ inl x ↦ inl (omega (arith, x)) | inr y ↦ inr (omega (arith, y)) ]
-
-            past : (o : Option ℕ) → slice_get cuts (suc index) ≡ o → suc index ≤ other → unit < cut
-            past None none later = absurd (gone cuts (suc index) other cut later none e)
-              where
-                gone : (xs : List ℕ) (k m x : ℕ) → k ≤ m → slice_get xs k ≡ None → slice_get xs m ≡ Some x → ⊥
-                gone [] k m x le none some = cc
-                gone (y ∷ xs) zero m x le none some = cc
-                gone (y ∷ xs) (suc k) zero x le none some = omega arith
-                gone (y ∷ xs) (suc k) (suc m) x le none some = gone xs k m x (omega arith) none some
-            past (Some next) some later =
-                let lt : unit < next = subst (λ o. StandsBefore o unit) some before in
-                let up : next ≤ cut = ascending (suc index) other next cut later some e in omega (arith, lt, up)
 
     below_cut : StartBelow range.cut edges
     below_cut = are.before range.cut range.first

@@ -1,5 +1,5 @@
 -- Lists in sets.
-use Rattle.std.proofs.Common.{◌≡◌, ℕ, ◌+◌, ◌<◌, ◌≤◌, max, arith, Bool, true, false, not, List, [], ◌∷◌, ◌++◌, length, Vec, sym, ap, ◌∙◌, inl, inr, Some, subst, slice_get}
+use Rattle.std.proofs.Common.{◌≡◌, ℕ, ◌+◌, ◌<◌, ◌≤◌, max, arith, Bool, true, false, not, List, [], ◌∷◌, ◌++◌, length, Vec, refl, sym, ap, ◌∙◌, inl, inr, Some, subst, slice_get}
 use Rattle.std.specs.Bool.{Decides, MatchBool}
 use Rattle.std.specs.Cmp.Lexicographic.{pointwise, pointwise_decides}
 use Rattle.std.specs.List.{list_any}
@@ -7,7 +7,7 @@ use Rattle.std.specs.Option.{option_map}
 use Rattle.std.specs.Prelude.{AllPairs, Contains, ◌≢◌, ◌⊎◌, sum_by, if◌then◌else◌}
 use Rattle.std.proofs.lemmas.Bool.{cases_lt}
 use Rattle.std.proofs.lemmas.Bool.Decides.{when_true, when_false}
-use Rattle.std.proofs.lemmas.List.{map_push, get_or_append_left, get_or_default, get_or_push, length_push}
+use Rattle.std.proofs.lemmas.List.{get_or_append_left, get_or_default, get_or_push, length_push}
 use Rattle.std.proofs.lemmas.List.Sums.{sum_by_push}
 use Rattle.std.proofs.lemmas.Option.{slice_get-map}
 use Rattle.lx_tnfa.specs.Equality.{TellsEqual}
@@ -58,34 +58,16 @@ module _ {P A : Type 0} (same : P → P → Bool) (old new : List (Vec P A)) (li
       added (λ (list : Vec P A). list.items) (λ (list other : Vec P A). pointwise same list.items other.items)
       (λ list other. (Decides-pointwise same tells list.items other.items).0) (λ list other. (Decides-pointwise same tells list.items other.items).1) old new list fresh told keys
 
-  pub is_put : fresh ≡ true → lists_of new ≡ lists_of old ++ list.items ∷ []
-  is_put e = at (list_any (λ (other : Vec P A). pointwise same list.items other.items) old) (sym told ∙ e) keys
-    where
-      at : (b : Bool) → not b ≡ true → new ≡ (if b then old else old ++ list ∷ []) → lists_of new ≡ lists_of old ++ list.items ∷ []
-      at true e put = absurd (cc e)
-      at false e put = ap lists_of put ∙ map_push (λ (list : Vec P A). list.items) old list
-
-  pub is_kept : fresh ≡ false → lists_of new ≡ lists_of old
-  is_kept e = at (list_any (λ (other : Vec P A). pointwise same list.items other.items) old) (sym told ∙ e) keys
-    where
-      at : (b : Bool) → not b ≡ false → new ≡ (if b then old else old ++ list ∷ []) → lists_of new ≡ lists_of old
-      at true e put = ap lists_of put
-      at false e put = absurd (cc e)
-
-  pub kept_with : (places most count : ℕ) → fresh ≡ true → AreKept (lists_of old) places most → count ≡ length list.items
-      → AreKept (lists_of new) (places + count) (max most count)
-  kept_with places most count e kept counted =
-      subst (λ (lists : List (List P)). AreKept lists (places + count) (max most count)) (sym (is_put e))
-      (kept-push (lists_of old) list.items places most count kept counted)
-
-  pub is_absent : TellsEqual same → fresh ≡ true → ¬ Contains (lists_of old) list.items
+  is_absent : TellsEqual same → fresh ≡ true → ¬ Contains (lists_of old) list.items
   is_absent tells e = (when_true _ _ e (insertion tells)).0
 
-  pub adds_put : TellsEqual same → fresh ≡ true → Adds (lists_of old) list.items (lists_of new)
-  adds_put tells e = inr (is_put e, is_absent tells e)
-
-  pub adds_kept : TellsEqual same → fresh ≡ false → Adds (lists_of old) list.items (lists_of new)
-  adds_kept tells e = inl (is_kept e, (when_false _ _ e (insertion tells)).0)
+  -- whether a list that is put was there
+  pub put_told : TellsEqual same → MatchBool fresh (¬ Contains (lists_of old) list.items) (Contains (lists_of old) list.items)
+  put_told tells = by fresh refl
+    where
+      by : (b : Bool) → fresh ≡ b → MatchBool b (¬ Contains (lists_of old) list.items) (Contains (lists_of old) list.items)
+      by true e = is_absent tells e
+      by false e = (when_false _ _ e (insertion tells)).0
 
 -- what stands in the set at the index of an equal list
 pub stored_list : {P A : Type 0} (same : P → P → Bool) → TellsEqual same → (new : List (Vec P A)) (list : List P) (index : ℕ)
@@ -95,3 +77,16 @@ stored_list {P} {A} same tells new list index there =
     slice_get-map (λ (list : Vec P A). list.items) new index
     ∙ ap (λ o. option_map (λ (list : Vec P A). list.items) o) there.1
     ∙ ap Some (sym ((Decides-pointwise same tells list there.0.items).0 there.2))
+
+-- a list that was put came behind the others, or was there
+pub put_adds : {P : Type 0} (old new : List (List P)) (list : List P) (fresh : Bool) → MatchBool fresh (new ≡ old ++ list ∷ []) (new ≡ old)
+    → MatchBool fresh (¬ Contains old list) (Contains old list) → Adds old list new
+put_adds old new list true lists told = inr (lists, told)
+put_adds old new list false lists told = inl (lists, told)
+
+-- what a set of lists says of itself stays so, with what a new list has
+pub kept_put : {P : Type 0} (old new : List (List P)) (list : List P) (fresh : Bool) (places most count : ℕ) → fresh ≡ true
+    → MatchBool fresh (new ≡ old ++ list ∷ []) (new ≡ old) → AreKept old places most → count ≡ length list → AreKept new (places + count) (max most count)
+kept_put {P} old new list fresh places most count is lists kept counted =
+    subst (λ (lists : List (List P)). AreKept lists (places + count) (max most count)) (sym (when_true _ _ is lists))
+    (kept-push old list places most count kept counted)

@@ -92,7 +92,7 @@ module _ (enc : Enc) (patterns : List Pattern) (tnfa : Tnfa) (of : IsTnfaOf enc 
       bare (place ∷ kernel) origin e = omega arith
 
   -- numbers tell lists of places in leaves apart
-  numbers_same : (kernel other : List Place) → Each (IsInLeaf tnfa) kernel → Each (IsInLeaf tnfa) other
+  pub numbers_same : (kernel other : List Place) → Each (IsInLeaf tnfa) kernel → Each (IsInLeaf tnfa) other
       → map (number_of tnfa) kernel ≡ map (number_of tnfa) other → kernel ≡ other
   numbers_same [] [] are also e = refl
   numbers_same [] (there ∷ other) are also e = cc

@@ -29,21 +29,21 @@ returns-in_err-to c =
     let p = err_from_is_err_and c.from_residual-in_err-to.result c.from_residual-in_err-to.ensures.1 in
     rw (p.1, p.2)
     (too_many-found of_rules.enc of_rules.patterns c.args.self.now.t.now of_rules.of c.args.kernels.now c.requires.listed c.args.reaches.now
-    c.requires.targets.0 c.args.units.lo c.requires.unit c.in_ok-steps.steps.items c.in_ok-steps.ensures.steps some c.in_ok-places.field-0.items
-    (c.in_ok-places.ensures ∙ ap (λ l. places_of (map seen_step l)) c.deref.ensures.value) c.args.self.now.at c.in_err-to.field-0.0 (c.in_err-to.ensures TellsEqual-places))
+    c.requires.targets.0 c.args.units.lo c.requires.unit c.in_ok-steps.steps.items c.in_ok-steps.ensures.steps some c.in_ok-step_places.field-0.items
+    (c.in_ok-step_places.ensures ∙ ap (λ l. places_of (map seen_step l)) c.deref.ensures.value) c.args.self.now.at c.in_err-to.field-0.0 (c.in_err-to.ensures TellsEqual-places))
 
 pub returns : goal.returns
 returns c =
     let of_rules = c.requires.of_rules in
     let some : c.in_ok-steps.steps.items ≢ [] = search (rules, c.is_empty.ensures, c.if-is_empty.false) in
-    let lead = c.in_ok-places.ensures ∙ ap (λ l. places_of (map seen_step l)) c.deref.ensures.value in (
+    let lead = c.in_ok-step_places.ensures ∙ ap (λ l. places_of (map seen_step l)) c.deref.ensures.value in (
       adds-grows of_rules.enc of_rules.patterns c.args.self.now.t.now of_rules.of c.args.kernels.now c.requires.listed c.args.reaches.now
-          c.requires.targets.0 c.args.units.lo c.requires.unit c.in_ok-steps.steps.items c.in_ok-steps.ensures.steps some c.in_ok-places.field-0.items
+          c.requires.targets.0 c.args.units.lo c.requires.unit c.in_ok-steps.steps.items c.in_ok-steps.ensures.steps some c.in_ok-step_places.field-0.items
           lead c.add.new.self (c.in_ok-to.ensures TellsEqual-places).0 (c.in_ok-to.ensures TellsEqual-places).2,
       (
         edge-made of_rules.enc of_rules.patterns c.args.self.now.t.now of_rules.of c.args.kernels.now c.requires.listed c.args.reaches.now
             c.requires.targets.0 c.args.units.lo c.requires.unit c.in_ok-steps.steps.items c.in_ok-steps.ensures.steps c.add.new.self c.args.is_first _
-            c.in_ok-places.field-0.items some (c.in_ok-to.ensures TellsEqual-places).1 lead
+            c.in_ok-step_places.field-0.items some (c.in_ok-to.ensures TellsEqual-places).1 lead
             (c.in_ok-step_ops.ensures
             ∙ ap (λ l. step_ops c.args.self.now.t.now (widest c.args.self.now.t.now.rules) c.args.is_first 0 (map seen_step l)) c.deref-2.ensures.value),
         refl,
