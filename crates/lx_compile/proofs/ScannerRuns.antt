@@ -1,5 +1,5 @@
 -- The automata of a block's scanners, and their checks, one behind another.
-use Rattle.std.proofs.Common.{◌≡◌, ◌≢◌, ℕ, suc, ◌<◌, ◌+◌, add-one, List, [], ◌∷◌, ◌++◌, length, drop, get_or, map, Option, Some, None, inl, inr, refl, sym, ap, subst, append_assoc, append-nil, ◌∙◌}
+use Rattle.std.proofs.Common.{◌≡◌, ◌≢◌, ℕ, suc, true, ◌<◌, ◌+◌, add-one, List, [], ◌∷◌, ◌++◌, length, drop, get_or, map, Option, Some, None, inl, inr, refl, sym, ap, subst, append_assoc, append-nil, ◌∙◌}
 use Rattle.std.proofs.Math.Seq.{drop-cons}
 use Rattle.std.specs.Prelude.{IfSome}
 use Rattle.std.specs.List.{AllByRecursion}
@@ -11,6 +11,8 @@ use Rattle.lx_base.specs.declared.faults.Stop.TheVariants as stop
 use Rattle.lx_base.specs.declared.places.Pos.{Pos}
 use Rattle.lx_base.specs.declared.settings.Enc.{Enc}
 use Rattle.lx_base.specs.declared.settings.Options.{Options}
+use Rattle.lx_cover.specs.Cover.{IsFirstSumOver}
+use Rattle.lx_cover.specs.declared.covering.TheConstants.{COVER_LIMIT}
 use Rattle.lx_gen.proofs.SourceLists.{map-behind}
 use Rattle.lx_gen.specs.Automata.{AreAlikeAmong, IsAlike, auto_by, checks_by, seen_autos, seen_checks}
 use Rattle.lx_gen.specs.Generated.{AreAutomata, AreAutomataUnder}
@@ -18,7 +20,7 @@ use Rattle.lx_gen.specs.declared.automata.ScannerAuto.{ScannerAuto}
 use Rattle.lx_gen.specs.declared.automata.ScannerAuto.TheVariants.{Own, AsFirst}
 use Rattle.lx_fill.specs.Checks.{AreChecks}
 use Rattle.lx_regex.specs.Order.{Policy}
-use Rattle.lx_regex.specs.Pattern.{patterns_of}
+use Rattle.lx_regex.specs.Pattern.{patterns_of, terms_of}
 use Rattle.lx_regex.specs.declared.rules.Rule.{Rule}
 use Rattle.lx_renumber.specs.Renumbered.{renumbered, renumbered_pattern}
 use Rattle.lx_rules.specs.Within.{IsScannerWithin}
@@ -197,6 +199,14 @@ pub StopsWithFault-kernels : (options : Options) (at : Pos) (scanner : Scanner) 
     → StopsWithFault (IsScannerFault options at scanner) stopped
 StopsWithFault-kernels options at scanner stop.Memory stops = tt
 StopsWithFault-kernels options at scanner (stop.Fault fault) stops = inl (stops.1, stops.0)
+
+-- covering words that are asked for, and are too long
+pub StopsWithFault-long : (options : Options) (at : Pos) (scanner : Scanner) (stopped : Stop) → asks_for_cover options ≡ true
+    → StopsWithFault
+    (λ fault. (sum : ℕ) × IsFirstSumOver options.enc (terms_of (patterns_of scanner.set.rules)) COVER_LIMIT sum × (fault ≡ CoverTooLong at sum)) stopped
+    → StopsWithFault (λ fault. (sum : ℕ) × IsTooLong options scanner sum × (fault ≡ CoverTooLong at sum)) stopped
+StopsWithFault-long options at scanner stop.Memory asked stops = tt
+StopsWithFault-long options at scanner (stop.Fault fault) asked stops = (stops.0, (asked, stops.1), stops.2)
 
 -- one without stops with that of its covering words
 pub StopsWithFault-cover : (options : Options) (at : Pos) (scanner : Scanner) (stopped : Stop) → (IsTooLarge options scanner → ⊥)

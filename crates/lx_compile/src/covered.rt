@@ -1,7 +1,8 @@
 //! The covering words of the scanners of a source, and the text that tells them.
 ghost use Rattle.std.specs.Prelude.{◌≡◌, ◌≤◌, ◌++◌, ℕ, All, List, None, IfOk, MatchResult, OnOk, length, sum_by};
 ghost use Rattle.lx_base.specs.declared.faults.Fault.TheVariants.{CoverTooLong};
-ghost use Rattle.lx_cover.specs.Cover.{HasFewKernels, IsCover, IsFirstSumOver};
+ghost use Rattle.lx_base.specs.declared.settings.Enc.{Enc as Encoding};
+ghost use Rattle.lx_cover.specs.Cover.{IsCover, IsFirstSumOver};
 ghost use Rattle.lx_cover.specs.Matches.{Tells};
 ghost use Rattle.lx_cover.specs.declared.covering.TheConstants.{COVER_LIMIT};
 ghost use Rattle.lx_gen.specs.Generated.{endings_by};
@@ -18,12 +19,12 @@ ghost use Rattle.lx_tnfa.specs.Tnfa.{IsTnfaOf};
 ghost use Rattle.lx_compile.specs.Covering.{AreWordLines, IsCoverText, IsCoveredWhere, IsWordLine, cover_of, match_text};
 ghost use Rattle.lx_compile.specs.Emittable.{IsMadeFor};
 ghost use Rattle.lx_compile.specs.Options.{asks_for_cover};
-ghost use Rattle.lx_compile.specs.ScannerFaults.{IsTooLarge, IsTooLong, StopsWithFault};
+ghost use Rattle.lx_compile.specs.ScannerFaults.{IsTooLong, StopsWithFault};
 
 use crate::cover_lines::{append_heading, append_rule, append_word};
 use crate::made::Made;
 use lx_auto::Auto;
-use lx_base::{Enc, Fault, Memory, Options, Pos, Stop, Word, append_parts};
+use lx_base::{Fault, Memory, Options, Pos, Stop, Word, append_parts};
 use lx_cover::{CoverMatch, CoverStop, TagValue, Values, Words, cover, match_word};
 use lx_gen::{Marks, rule_ends};
 use lx_layout::{EndIndex, index_of};
@@ -51,15 +52,13 @@ pub(crate) fn asks_for_cover(options: &Options) -> bool
 }
 
 /// The covering words of an automaton's rules, or the fault that they are too long for a block whose opener stands at `at`.
-fn covering_words(alloc: Global, t: &Tnfa, enc: Enc, at: Pos) -> Result<Words, Stop>
-    requires built { IsBuilt t.now }
-    requires few { HasFewKernels t.now }
-    requires encoding { t.now.enc ≡ enc }
-    ensures { (patterns : List Pattern) → IsTnfaOf enc patterns t.now → AllClassesFit enc (terms_of patterns)
+fn covering_words(alloc: Global, t: &Tnfa, at: Pos) -> Result<Words, Stop>
+    requires { IsBuilt t.now }
+    ensures { (enc : Encoding) (patterns : List Pattern) → IsTnfaOf enc patterns t.now → AllClassesFit enc (terms_of patterns)
         → MatchResult result (λ words. IsCover enc (terms_of patterns) words × (sum_by length words ≤ COVER_LIMIT))
         (StopsWithFault (λ fault. (sum : ℕ) × IsFirstSumOver enc (terms_of patterns) COVER_LIMIT sum × (fault ≡ CoverTooLong at sum))) }
 {
-    match cover(alloc, t, enc) {
+    match cover(alloc, t) {
         Ok(words) => Ok(words),
         Err(CoverStop::Memory) => Err(Stop::Memory),
         Err(CoverStop::TooLong(sum)) => Err(Stop::Fault(Fault::CoverTooLong { at, sum })),
@@ -190,7 +189,6 @@ pub(crate) fn append_cover(
     requires fit { IsFit (length frame.now.acts.now) scanner.now }
     requires within { IsScannerWithin frame.now.options.now.enc scanner.now }
     requires built { IsTnfaOf frame.now.options.now.enc (patterns_of scanner.now.set.rules) t.now }
-    requires few { IsTooLarge frame.now.options.now scanner.now → ⊥ }
     requires automaton { IsMadeFor frame.now.options.now scanner.now auto.now }
     ensures { MatchResult result
         (λ _. ((sum : ℕ) → IsTooLong frame.now.options.now scanner.now sum → ⊥)
@@ -202,7 +200,7 @@ pub(crate) fn append_cover(
         return Ok(());
     }
     let options = frame.options;
-    let words = covering_words(alloc, t, options.enc, frame.at)?;
+    let words = covering_words(alloc, t, frame.at)?;
     let matching = Matching {
         options,
         acts: frame.acts,

@@ -1,214 +1,222 @@
--- The words by the units before some place of a search are the first covering words, and those of all places are the cover.
-use Rattle.std.proofs.Common.{◌≡◌, ◌⊎◌, inl, inr, ℕ, zero, suc, ◌<◌, ◌≤◌, List, [], ◌∷◌, ◌++◌, Option, Some, None, IsSome, refl, sym, ap, ◌∙◌, subst, arith}
-use Rattle.std.proofs.lemmas.Bool.{cases_lt, cases_order}
-use Rattle.std.proofs.lemmas.List.{length_push}
+-- How the covering words that come before a word go on, until they are the cover, or too long.
+use Rattle.std.proofs.Common.{◌≡◌, ◌⊎◌, inl, inr, ℕ, zero, suc, ◌+◌, ◌<◌, ◌≤◌, List, [], ◌∷◌, ◌++◌, length, get_or, Option, refl, sym, ap, ◌∙◌, subst, arith}
+use Rattle.std.proofs.lemmas.Bool.{cases_lt}
+use Rattle.std.proofs.lemmas.List.Elements.{Contains-append_cases, Contains-append_left, Contains-get_or, Contains-push}
+use Rattle.std.proofs.lemmas.List.Quantifiers.{all_pairs_push}
 use Rattle.std.specs.Prelude.{Contains}
-use Rattle.lx_auto.specs.declared.automaton.Auto.{Auto}
+use Rattle.lx_auto.proofs.Places.{Contains-one}
 use Rattle.lx_base.specs.Spelling.{greatest_unit}
 use Rattle.lx_base.specs.declared.settings.Enc.{Enc}
-use Rattle.lx_regex.specs.Kernel.{IsWord}
-use Rattle.lx_regex.specs.Pattern.{Pattern, terms_of}
 use Rattle.lx_regex.specs.Term.{Term}
-use Rattle.lx_tdfa.proofs.LeastWords.SearchedWords.{stands-least, walk-push, word-least, word_at-parent, words-ascend, words-lead}
-use Rattle.lx_tdfa.proofs.LeastWords.WordOrder.{comes-itself, comes-push, comes-trans, no_later-last, no_later-never}
-use Rattle.lx_tdfa.specs.KernelStates.{HasKernelStates, HaveOneKernel, next, state_behind}
-use Rattle.lx_tdfa.specs.Searches.{AreApart, IsEarlier, IsSearched, Trace, and_then, word_at}
-use Rattle.lx_tdfa.specs.Words.{ComesBefore, IsNoLater}
+use Rattle.lx_tdfa.proofs.LeastWords.WordOrder.{comes-last, comes-push, comes-trans, empty-no_later, no_later-before}
+use Rattle.lx_tdfa.proofs.WordKernels.CutRuns.{snoc_same}
+use Rattle.lx_tdfa.specs.WordLists.{TellsKernels}
+use Rattle.lx_tdfa.specs.Words.{ComesBefore}
+use Rattle.lx_cover.proofs.CoverOrder.{IsBehind, IsBetween, between, no_later-both, onward, only-empty}
+use Rattle.lx_cover.proofs.KernelSteps.{IsAmong, front-found, kernels-all, number-below}
 use Rattle.lx_cover.specs.Cover.{AreFirst, BeginsRun, IsCover, IsCovering, IsLeastWord, StopsCover}
-use Rattle.lx_cover.specs.Progress.{AreCoveringBefore, LeavesBy, StopsOver}
+use Rattle.lx_cover.specs.Progress.{AreCoveringBefore, AreKernelsBefore, IsOver}
 use Rattle.lx_cover.specs.declared.covering.CoverStop.{CoverStop}
 use Rattle.lx_cover.specs.declared.covering.CoverStop.TheVariants.{Memory, TooLong}
 
--- each unit on which the automaton goes on is one of the encoding
-abbrev pub GoesWithin : Enc → Auto → Type 0
-GoesWithin enc auto = (state unit to : ℕ) → next auto state unit ≡ Some to → unit ≤ greatest_unit enc
-
-word-push : (enc : Enc) (rules : List Term) (word : List ℕ) (unit : ℕ) → IsWord enc rules word → unit ≤ greatest_unit enc
-    → IsWord enc rules (word ++ unit ∷ [])
-word-push enc rules [] unit is low = (low, tt)
-word-push enc rules (first ∷ word) unit is low = (is.0, word-push enc rules word unit is.1 low)
-
-no_later-both : (word other : List ℕ) → IsNoLater word other → IsNoLater other word → word ≡ other
-no_later-both word other (inr same) also = same
-no_later-both word other (inl before) also = absurd (no_later-never other word also before)
-
-never-empty : (word : List ℕ) (unit : ℕ) → ComesBefore (word ++ unit ∷ []) [] → ⊥
-never-empty word unit (inl shorter) = let long = length_push word unit in omega (arith, long, shorter)
-never-empty word unit (inr (same, before)) = let long = length_push word unit in omega (arith, long, same)
-
-module _ (enc : Enc) (patterns : List Pattern) (auto : Auto) (trace : Trace) (states : HasKernelStates enc patterns auto)
-    (within : GoesWithin enc auto) (searched : IsSearched (next auto) trace) (apart : AreApart (next auto) trace) where
-  abbrev rules : List Term
-  rules = terms_of patterns
-
-  abbrev word_of : ℕ → List ℕ
-  word_of place = word_at trace place
-
-  -- ---- the words of places are the least words
-
-  leads : (place : ℕ) → place < trace.count → state_behind auto (word_of place) ≡ Some (trace.state place)
-  leads place lt = words-lead (next auto) trace searched.traced place lt
-
-  units-below : (bound place : ℕ) → place < bound → place < trace.count → IsWord enc rules (word_of place)
-  units-below zero place small lt = absurd (omega arith)
-  units-below (suc bound) zero small lt = tt
-  units-below (suc bound) (suc place) small lt =
-      let back : trace.parent (suc place) < suc place = searched.traced.parents (suc place) (omega arith) lt in
-      subst (IsWord enc rules) (sym (word_at-parent (next auto) trace searched.traced (suc place) (omega arith) lt))
-      (word-push enc rules (word_of (trace.parent (suc place))) (trace.unit (suc place))
-      (units-below bound (trace.parent (suc place)) (omega arith) (omega arith))
-      (within (trace.state (trace.parent (suc place))) (trace.unit (suc place)) (trace.state (suc place))
-      (searched.traced.steps (suc place) (omega arith) lt)))
-
-  units : (place : ℕ) → place < trace.count → IsWord enc rules (word_of place)
-  units place lt = units-below (suc place) place (omega arith) lt
-
-  place-least : (place : ℕ) → place < trace.count → IsLeastWord enc rules (word_of place)
-  place-least place lt = record {
-    units = units place lt;
-    begins = (states.leads (word_of place) (units place lt)).0 (subst (λ o. IsSome o) (sym (leads place lt)) refl);
-    least = λ other spelled one.
-        word-least (next auto) trace place other searched apart lt
-        ((states.same other (word_of place) spelled (units place lt)).1 one ∙ leads place lt);
-  }
-
-  least-place : (word : List ℕ) → IsLeastWord enc rules word → (place : ℕ) × (place < trace.count) × (word ≡ word_of place)
-  least-place word is = at (state_behind auto word) refl
+module _ (enc : Enc) (rules : List Term) (kernel : List ℕ → Option (List ℕ)) (tells : TellsKernels enc rules kernel) where
+  -- a covering word with a front is that of a least word
+  covering-apart : (front : List ℕ) (unit : ℕ) → IsCovering enc rules (front ++ unit ∷ []) → IsLeastWord enc rules front × BeginsRun enc rules front unit
+  covering-apart front unit (inl none) = absurd (never front none)
     where
-      one : (state : ℕ) → state_behind auto word ≡ Some state → (place : ℕ) → place < trace.count → trace.state place ≡ state
-          → HaveOneKernel enc rules (word_of place) word
-      one state behind place lt stands =
-          (states.same (word_of place) word (units place lt) is.units).0 (leads place lt ∙ ap Some stands ∙ sym behind)
+      never : (front : List ℕ) → front ++ unit ∷ [] ≡ [] → ⊥
+      never [] e = cc
+      never (first ∷ front) e = cc
+  covering-apart front unit (inr (own, last, whole, least, run)) =
+      let same = snoc_same front own unit last whole in (
+        subst (IsLeastWord enc rules) (sym same.0) least,
+        subst (λ w. BeginsRun enc rules w unit) (sym same.0) (subst (BeginsRun enc rules own) (sym same.1) run),
+      )
 
-      at : (found : Option ℕ) → state_behind auto word ≡ found → (place : ℕ) × (place < trace.count) × (word ≡ word_of place)
-      at None behind =
-          let some = (states.leads word is.units).1 is.begins in
-          absurd (nothing (state_behind auto word) behind some)
-        where
-          nothing : (o : Option ℕ) → o ≡ None → IsSome o → ⊥
-          nothing None is is_some = cc is_some
-          nothing (Some state) is is_some = cc is
-      at (Some state) behind =
-          let stands = stands-least (next auto) trace searched word state behind in (
-            stands.0,
-            stands.1,
-            no_later-both word (word_of stands.0)
-                (is.least (word_of stands.0) (units stands.0 stands.1) (one state behind stands.0 stands.1 stands.2)) stands.3,
-          )
+  -- units that lead alike are of one run
+  no-run : (front : List ℕ) (before unit : ℕ) → unit ≡ suc before → kernel (front ++ before ∷ []) ≡ kernel (front ++ unit ∷ [])
+      → BeginsRun enc rules front unit → ⊥
+  no-run front before unit is same run = run.1 before is ((tells.same (front ++ before ∷ []) (front ++ unit ∷ [])).0 same)
 
-  -- ---- the runs behind them
-
-  behind : (place unit : ℕ) → place < trace.count → state_behind auto (word_of place ++ unit ∷ []) ≡ next auto (trace.state place) unit
-  behind place unit lt =
-      walk-push (next auto) 0 (word_of place) unit ∙ ap (λ found. and_then found (λ last. next auto last unit)) (leads place lt)
-
-  run-leaves : (place unit : ℕ) → place < trace.count → BeginsRun enc rules (word_of place) unit → LeavesBy enc auto trace place unit
-  run-leaves place unit lt run = (
-    lt,
-    run.0,
-    λ before step same.
-        let low : unit ≤ greatest_unit enc = run.0 in
-        run.1 before step
-        ((states.same (word_of place ++ before ∷ []) (word_of place ++ unit ∷ []) (word-push enc rules (word_of place) before (units place lt) (omega arith))
-        (word-push enc rules (word_of place) unit (units place lt) low)).0
-        (behind place before lt ∙ same ∙ sym (behind place unit lt))),
-  )
-
-  leaves-run : (place unit : ℕ) → LeavesBy enc auto trace place unit → BeginsRun enc rules (word_of place) unit
-  leaves-run place unit leaves = (
-    leaves.1,
-    λ before step one.
-        let low : unit ≤ greatest_unit enc = leaves.1 in
-        leaves.2 before step
-        (sym (behind place before leaves.0)
-        ∙ (states.same (word_of place ++ before ∷ []) (word_of place ++ unit ∷ [])
-        (word-push enc rules (word_of place) before (units place leaves.0) (omega arith))
-        (word-push enc rules (word_of place) unit (units place leaves.0) low)).1 one
-        ∙ behind place unit leaves.0),
-  )
-
-  -- ---- the words in the list
-
-  module _ (words : List (List ℕ)) (place bound : ℕ) (so_far : AreCoveringBefore enc auto trace words place bound) where
-    covering-sound : (word : List ℕ) → Contains words word → IsCovering enc rules word
-    covering-sound word has = elim (so_far.sound word has) [
-      | inl empty ↦ inl empty
-      | inr (from, unit, leaves, earlier, whole) ↦
-          inr (word_of from, unit, whole, place-least from leaves.0, leaves-run from unit leaves)
-    ]
-
-    -- a covering word that comes before one of the list is in it
-    comes-earlier : (from unit other last : ℕ) → LeavesBy enc auto trace from unit → LeavesBy enc auto trace other last
-        → IsEarlier other last place bound → ComesBefore (word_of from ++ unit ∷ []) (word_of other ++ last ∷ []) → IsEarlier from unit place bound
-    comes-earlier from unit other last leaves also earlier before = at (cases_order from other)
-      where
-        on : from ≡ other → unit < last → IsEarlier other last place bound → IsEarlier from unit place bound
-        on same less (inl early) = inl (omega arith)
-        on same less (inr (equal, below)) = inr (same ∙ equal, omega arith)
-
-        sooner : from < other → IsEarlier other last place bound → IsEarlier from unit place bound
-        sooner less (inl early) = inl (omega arith)
-        sooner less (inr (equal, below)) = inl (omega arith)
-
-        at : (from ≡ other) ⊎ ((from < other) ⊎ (other < from)) → IsEarlier from unit place bound
-        at (inl same) = elim (cases_lt unit last) [
-          | inl less ↦ on same less earlier
-          | inr ge ↦
-              absurd (no_later-never (word_of other ++ last ∷ []) (word_of from ++ unit ∷ [])
-              (subst (λ p. IsNoLater (word_of other ++ last ∷ []) (word_of p ++ unit ∷ [])) (sym same) (no_later-last (word_of other) last unit ge)) before)
-        ]
-        at (inr (inl less)) = sooner less earlier
-        at (inr (inr more)) =
-            absurd (comes-itself (word_of from ++ unit ∷ [])
-            (comes-trans (word_of from ++ unit ∷ []) (word_of other ++ last ∷ []) (word_of from ++ unit ∷ []) before
-            (comes-push (word_of other) (word_of from) last unit (words-ascend (next auto) trace searched.traced other from more leaves.0))))
-
-    covering-closed : (word last : List ℕ) → IsCovering enc rules word → Contains words last → ComesBefore word last → Contains words word
-    covering-closed word last (inl empty) has before = subst (Contains words) (sym empty) so_far.empty
-    covering-closed word last (inr (front, unit, whole, least, run)) has before = at (so_far.sound last has)
-      where
-        from : (place : ℕ) × (place < trace.count) × (front ≡ word_of place)
-        from = least-place front least
-
-        whole_at : word ≡ word_of from.0 ++ unit ∷ []
-        whole_at = whole ∙ ap (λ w. w ++ unit ∷ []) from.2
-
-        leaves : LeavesBy enc auto trace from.0 unit
-        leaves = run-leaves from.0 unit from.1 (subst (λ w. BeginsRun enc rules w unit) from.2 run)
-
-        at : (last ≡ [])
-            ⊎ ((other : ℕ) × (end : ℕ) × LeavesBy enc auto trace other end × IsEarlier other end place bound × (last ≡ word_of other ++ end ∷ []))
-            → Contains words word
-        at (inl none) =
-            absurd (never-empty (word_of from.0) unit
-            (subst (λ w. ComesBefore w []) whole_at (subst (λ w. ComesBefore word w) none before)))
-        at (inr (other, end, also, earlier, is)) =
-            subst (Contains words) (sym whole_at)
-            (so_far.every from.0 unit leaves
-            (comes-earlier from.0 unit other end leaves also earlier
-            (subst (λ w. ComesBefore w (word_of other ++ end ∷ [])) whole_at (subst (λ w. ComesBefore word w) is before))))
-
-    pub covering-first : AreFirst enc rules words
-    covering-first = record { sound = covering-sound; order = so_far.order; closed = covering-closed }
-
-    pub covering-cover : trace.count ≤ place → IsCover enc rules words
-    covering-cover all = record { sound = covering-sound; order = so_far.order; complete = complete }
-      where
-        complete : (word : List ℕ) → IsCovering enc rules word → Contains words word
-        complete word (inl empty) = subst (Contains words) (sym empty) so_far.empty
-        complete word (inr (front, unit, whole, least, run)) =
-            let from = least-place front least in
-            let less : from.0 < trace.count = from.1 in
-            subst (Contains words) (sym (whole ∙ ap (λ w. w ++ unit ∷ []) from.2))
-            (so_far.every from.0 unit (run-leaves from.0 unit from.1 (subst (λ w. BeginsRun enc rules w unit) from.2 run)) (inl (omega arith)))
-
-  pub stops-cover : (stop : CoverStop) → StopsOver enc auto trace stop → StopsCover enc rules stop
-  stops-cover Memory over = tt
-  stops-cover (TooLong sum) over = record {
-    words = over.words;
-    last = over.last;
-    first = covering-first (over.words ++ over.last ∷ []) over.place over.bound over.covering;
-    within = over.within;
-    over = over.over;
-    is = over.is;
+  -- the least word of a kernel that was found
+  pub found-least : (count : ℕ) (least : ℕ → List ℕ) (limit : List ℕ) → AreKernelsBefore enc rules kernel count least limit → (number : ℕ) → number < count
+      → IsLeastWord enc rules (least number)
+  found-least count least limit are number lt = record {
+    units = are.units number lt;
+    begins = (tells.begins (least number)).1 (are.begins number lt);
+    least = λ other spelled one. are.first number other lt spelled ((tells.same other (least number)).1 one);
   }
+
+  -- a least word whose kernel was found is the one that was found
+  least-found : (count : ℕ) (least : ℕ → List ℕ) (limit : List ℕ) → AreKernelsBefore enc rules kernel count least limit → (word : List ℕ)
+      → IsLeastWord enc rules word → (found : IsAmong enc rules kernel tells count least word) → word ≡ least found.0
+  least-found count least limit are word is found =
+      no_later-both word (least found.0)
+      (is.least (least found.0) (are.units found.0 found.1) ((tells.same (least found.0) word).0 (sym found.2))) found.3
+
+  -- the empty word alone
+  pub covering-start : AreCoveringBefore enc rules ([] ∷ []) (0 ∷ [])
+  covering-start = record {
+    sound = λ word has. let is = Contains-one [] word has in (inl (sym is), subst (λ w. ComesBefore w (0 ∷ [])) is (inl (omega arith)));
+    every = λ word covering before. (0, omega arith, sym (only-empty word before));
+    order = λ i j d less within. absurd (omega arith);
+  }
+
+  -- ---- from one unit to another
+
+  module _ (front : List ℕ) (unit end : ℕ) (less : unit < end)
+      (alike : (other : ℕ) → unit ≤ other → other < end → kernel (front ++ other ∷ []) ≡ kernel (front ++ unit ∷ [])) (words : List (List ℕ))
+      (so_far : AreCoveringBefore enc rules words (front ++ unit ∷ [])) where
+    -- behind the first of them none begins a run
+    inside : (other : ℕ) → unit < other → other < end → BeginsRun enc rules front other → ⊥
+    inside other more below run = at other refl
+      where
+        at : (own : ℕ) → own ≡ other → ⊥
+        at zero is = omega arith
+        at (suc before) is =
+            no-run front before other (sym is)
+            (alike before (omega arith) (omega arith) ∙ sym (alike other (omega arith) below)) run
+
+    limit-before : (word : List ℕ) → ComesBefore word (front ++ unit ∷ []) → ComesBefore word (front ++ end ∷ [])
+    limit-before word before = comes-trans word (front ++ unit ∷ []) (front ++ end ∷ []) before (comes-last front unit end less)
+
+    -- the first of them begins none
+    pub covering-kept : (BeginsRun enc rules front unit → ⊥) → AreCoveringBefore enc rules words (front ++ end ∷ [])
+    covering-kept goes_on = record {
+      sound = λ word has. let is = so_far.sound word has in (is.0, limit-before word is.1);
+      every = λ word covering before. elim (between front unit end word before) [
+        | inl early ↦ so_far.every word covering early
+        | inr is ↦ absurd (none is (covering-apart front is.other (subst (IsCovering enc rules) is.whole covering)).1)
+      ];
+      order = so_far.order;
+    }
+      where
+        none : {word : List ℕ} (is : IsBetween front unit end word) → BeginsRun enc rules front is.other → ⊥
+        none is run = elim (cases_lt unit is.other) [
+          | inl more ↦ inside is.other more is.below run
+          | inr most ↦
+              let from : unit ≤ is.other = is.from in
+              let same : is.other ≡ unit = omega arith in goes_on (subst (BeginsRun enc rules front) same run)
+        ]
+
+    -- or it does
+    module _ (least : IsLeastWord enc rules front) (run : BeginsRun enc rules front unit) where
+      abbrev last : List ℕ
+      last = front ++ unit ∷ []
+
+      order-pushed : (k : ℕ) (d : List ℕ) → k < length words → ComesBefore (get_or words k d) last
+      order-pushed k d within = (so_far.sound (get_or words k d) (Contains-get_or words k d within)).1
+
+      pub covering-pushed : AreCoveringBefore enc rules (words ++ last ∷ []) (front ++ end ∷ [])
+      covering-pushed = record {
+        sound = λ word has. elim (Contains-append_cases words (last ∷ []) word has) [
+          | inl early ↦ let is = so_far.sound word early in (is.0, limit-before word is.1)
+          | inr here ↦
+              let same : last ≡ word = Contains-one last word here in (
+                inr (front, unit, sym same, least, run),
+                subst (λ w. ComesBefore w (front ++ end ∷ [])) same (comes-last front unit end less),
+              )
+        ];
+        every = λ word covering before. elim (between front unit end word before) [
+          | inl early ↦ Contains-append_left words (last ∷ []) word (so_far.every word covering early)
+          | inr is ↦ at word is (covering-apart front is.other (subst (IsCovering enc rules) is.whole covering)).1
+        ];
+        order = all_pairs_push ComesBefore words last so_far.order order-pushed;
+      }
+        where
+          at : (word : List ℕ) (is : IsBetween front unit end word) → BeginsRun enc rules front is.other → Contains (words ++ last ∷ []) word
+          at word is begins = elim (cases_lt unit is.other) [
+            | inl more ↦ absurd (inside is.other more is.below begins)
+            | inr most ↦
+                let from : unit ≤ is.other = is.from in
+                let same : unit ≡ is.other = omega arith in
+                subst (Contains (words ++ last ∷ [])) (ap (λ u. front ++ u ∷ []) same ∙ sym is.whole) (Contains-push words last)
+          ]
+
+      -- with it they are the first covering words
+      pub covering-first : AreFirst enc rules (words ++ last ∷ [])
+      covering-first = record {
+        sound = λ word has. (covering-pushed.sound word has).0;
+        order = covering-pushed.order;
+        closed = λ word other covering has before.
+            Contains-append_left words (last ∷ []) word (so_far.every word covering (at word other before (Contains-append_cases words (last ∷ []) other has)));
+      }
+        where
+          at : (word other : List ℕ) → ComesBefore word other → Contains words other ⊎ Contains (last ∷ []) other → ComesBefore word last
+          at word other before (inl early) = comes-trans word other last before (so_far.sound other early).1
+          at word other before (inr here) = subst (ComesBefore word) (sym (Contains-one last other here)) before
+
+      pub covering-stops : (stop : CoverStop) → IsOver words last stop → StopsCover enc rules stop
+      covering-stops Memory over = tt
+      covering-stops (TooLong sum) over = record {
+        words = words;
+        last = last;
+        first = covering-first;
+        within = over.0;
+        over = over.1;
+        is = over.2;
+      }
+
+  -- ---- from one kernel to the next
+
+  module _ (count : ℕ) (least : ℕ → List ℕ) (number : ℕ) (within : number < count) (words : List (List ℕ))
+      (are : AreKernelsBefore enc rules kernel count least (least number ++ (greatest_unit enc + 1) ∷ []))
+      (so_far : AreCoveringBefore enc rules words (least number ++ (greatest_unit enc + 1) ∷ [])) where
+    pub covering-next : number + 1 < count → AreCoveringBefore enc rules words (least (number + 1) ++ 0 ∷ [])
+    covering-next next = record {
+      sound = λ word has. let is = so_far.sound word has in (is.0, comes-trans word (least number ++ (greatest_unit enc + 1) ∷ []) (least (number + 1) ++ 0 ∷ []) is.1 later);
+      every = λ word covering before. elim (onward (least number) (least (number + 1)) (greatest_unit enc + 1) word before) [
+        | inl early ↦ so_far.every word covering early
+        | inr is ↦ absurd (none is (covering-apart is.own is.unit (subst (IsCovering enc rules) is.whole covering)))
+      ];
+      order = so_far.order;
+    }
+      where
+        later : ComesBefore (least number ++ (greatest_unit enc + 1) ∷ []) (least (number + 1) ++ 0 ∷ [])
+        later = comes-push (least number) (least (number + 1)) (greatest_unit enc + 1) 0 (are.order number (number + 1) (omega arith) next)
+
+        none : {word : List ℕ} (is : IsBehind (least number) (least (number + 1)) (greatest_unit enc + 1) word)
+            → IsLeastWord enc rules is.own × BeginsRun enc rules is.own is.unit → ⊥
+        none is (own, run) = at is.behind
+          where
+            found : (found : IsAmong enc rules kernel tells count least is.own) × (found.0 ≤ number)
+            found =
+                front-found enc rules kernel tells count least number within are is.own next own.units ((tells.begins is.own).0 own.begins) is.before
+
+            at : ComesBefore (least number) is.own ⊎ (greatest_unit enc + 1 ≤ is.unit) → ⊥
+            at (inl more) =
+                let same : is.own ≡ least found.0.0 = least-found count least (least number ++ (greatest_unit enc + 1) ∷ []) are is.own own found.0 in
+                let low : number < found.0.0 =
+                number-below enc rules kernel tells count least (least number ++ (greatest_unit enc + 1) ∷ []) are number found.0.0 within found.0.1
+                (subst (ComesBefore (least number)) same more) in
+                let most : found.0.0 ≤ number = found.1 in omega arith
+            at (inr past) = let low : is.unit ≤ greatest_unit enc = run.0 in omega arith
+
+    pub covering-all : count ≡ number + 1 → IsCover enc rules words
+    covering-all last = record {
+      sound = λ word has. (so_far.sound word has).0;
+      order = so_far.order;
+      complete = λ word covering. at word covering covering;
+    }
+      where
+        at : (word : List ℕ) → IsCovering enc rules word → IsCovering enc rules word → Contains words word
+        at word (inl none) covering =
+            so_far.every word covering
+            (subst (λ w. ComesBefore w (least number ++ (greatest_unit enc + 1) ∷ [])) (sym none)
+            (no_later-before [] (least number) (least number ++ (greatest_unit enc + 1) ∷ []) (empty-no_later (least number)) (are.before number within)))
+        at word (inr (front, unit, whole, own, run)) covering =
+            let found = kernels-all enc rules kernel tells count least number within are last front own.units ((tells.begins front).0 own.begins) in
+            let same : front ≡ least found.0 = least-found count least (least number ++ (greatest_unit enc + 1) ∷ []) are front own found in
+            so_far.every word covering
+            (subst (λ w. ComesBefore w (least number ++ (greatest_unit enc + 1) ∷ [])) (sym (whole ∙ ap (λ w. w ++ unit ∷ []) same))
+            (early found.0 unit found.1 run.0))
+          where
+            early : (other unit : ℕ) → other < count → unit ≤ greatest_unit enc
+                → ComesBefore (least other ++ unit ∷ []) (least number ++ (greatest_unit enc + 1) ∷ [])
+            early other unit lt low = elim (cases_lt other number) [
+              | inl less ↦ comes-push (least other) (least number) unit (greatest_unit enc + 1) (are.order other number less within)
+              | inr ge ↦
+                  let same : number ≡ other = omega arith in
+                  subst (λ n. ComesBefore (least n ++ unit ∷ []) (least number ++ (greatest_unit enc + 1) ∷ [])) same
+                  (comes-last (least number) unit (greatest_unit enc + 1) (omega arith))
+            ]

@@ -1,11 +1,13 @@
 pub mod BestFronts
+pub mod CoverOrder
+pub mod CoverPasses
+pub mod CoverSteps
+pub mod CoverTakes
 pub mod CoveringWords
-pub mod EdgeUnits
+pub mod KernelSteps
 pub mod MachineSteps
 pub mod OneCover
 pub mod OpSteps
-pub mod Progress
-pub mod RunEdges
-pub mod RunStarts
+pub mod RunTests
 pub mod ToldMatches
 pub mod WordMatches

@@ -2,23 +2,14 @@
 use Rattle.std.specs.Prelude.{◌≡◌, ℕ, suc, ◌<◌, ◌≤◌, ◌⊎◌, List, [], ◌∷◌, ◌++◌, length, sum_by, AllPairs, Contains}
 use Rattle.lx_base.specs.Spelling.{greatest_unit}
 use Rattle.lx_base.specs.declared.settings.Enc.{Enc}
-use Rattle.lx_regex.specs.ClassLimits.{AllClassesFit}
 use Rattle.lx_regex.specs.Cut.{BeginsMatch}
-use Rattle.lx_regex.specs.Kernel.{HasTooManyKernels, IsWord}
-use Rattle.lx_regex.specs.Pattern.{Pattern, terms_of}
+use Rattle.lx_regex.specs.Kernel.{IsWord}
 use Rattle.lx_regex.specs.Term.{Term}
 use Rattle.lx_tdfa.specs.KernelStates.{HaveOneKernel}
 use Rattle.lx_tdfa.specs.Words.{ComesBefore, IsNoLater}
-use Rattle.lx_tnfa.specs.Tnfa.{IsTnfaOf, Tnfa}
 use Rattle.lx_cover.specs.declared.covering.CoverStop.{CoverStop}
 use Rattle.lx_cover.specs.declared.covering.CoverStop.TheVariants.{Memory, TooLong}
 use Rattle.lx_cover.specs.declared.covering.TheConstants.{COVER_LIMIT}
-
--- the automaton is one of rules that do not have too many kernels
-abbrev pub HasFewKernels : Tnfa → Type 0
-HasFewKernels tnfa =
-    (enc : Enc) × (patterns : List Pattern) × IsTnfaOf enc patterns tnfa × AllClassesFit enc (terms_of patterns)
-    × (HasTooManyKernels enc (terms_of patterns) → ⊥)
 
 module _ (enc : Enc) (rules : List Term) where
   -- the least word of a kernel: it begins a match, and is no later than any word that has its kernel

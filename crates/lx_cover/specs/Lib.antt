@@ -5,4 +5,3 @@ pub mod Matches
 pub mod Outcomes
 pub mod Progress
 pub mod Registers
-pub mod Runs

@@ -9,7 +9,6 @@ pub mod laws;
 mod machine;
 mod matches;
 mod registers;
-mod runs;
 mod values;
 mod words;
 mod writes;

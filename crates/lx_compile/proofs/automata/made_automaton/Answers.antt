@@ -10,11 +10,6 @@ reduced-requires c =
     let found = c.in_ok-found.ensures (patterns_of c.args.scanner.now.set.rules) c.in_ok-automaton.ensures c.requires.within.classes in
     found.0.fits.formed
 
-pub append_cover-requires-clause-few : goal.append_cover-requires-clause-few
-append_cover-requires-clause-few c =
-    let found = c.in_ok-found.ensures (patterns_of c.args.scanner.now.set.rules) c.in_ok-automaton.ensures c.requires.within.classes in
-    found.1
-
 pub append_cover-requires-clause-automaton : goal.append_cover-requires-clause-automaton
 append_cover-requires-clause-automaton c =
     let options = c.args.frame.now.options.now in

@@ -1,9 +1,9 @@
-use Rattle.lx_cover.specs.Progress.{AreCoveringBefore, IsCounted}
-use Rattle.lx_search.specs.Found.{trace_of}
+use Rattle.std.proofs.Common.{◌-◌}
+use Rattle.lx_cover.proofs.CoverPasses.{IsCovered}
 use Rattle.lx_cover.proofs.covers.cover.Given as goal
 
-abbrev pub invariant-loop-place : goal.invariant-loop-place
-invariant-loop-place l = record {
-  counted : IsCounted l.covering;
-  covering : AreCoveringBefore l.enc l.auto' (trace_of l.places) l.covering.words l.place 0;
-}
+abbrev pub invariant-loop-number : goal.invariant-loop-number
+invariant-loop-number l = IsCovered l.t l.covering l.number
+
+abbrev pub decreases-loop-number : goal.decreases-loop-number
+decreases-loop-number l = 1048577 - l.number
