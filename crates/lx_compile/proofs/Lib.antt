@@ -11,7 +11,6 @@ pub mod FoundPieces
 pub mod GreatestNumbers
 pub mod HistoryBounds
 pub mod ItemRuns
-pub mod LeftmostToo
 pub mod LineRuns
 pub mod LinesAfter
 pub mod ListedRegisters
@@ -26,6 +25,7 @@ pub mod OutputCuts
 pub mod OutsideTexts
 pub mod PieceActions
 pub mod PlacedPieces
+pub mod PolicyKernels
 pub mod QuietOutputs
 pub mod QuietSources
 pub mod QuietTexts

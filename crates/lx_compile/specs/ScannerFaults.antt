@@ -25,10 +25,9 @@ abbrev pub HasTooMany : Policy → Enc → (rules : List Term) → Type 0
 HasTooMany greedy enc rules = HasTooManyKernels enc rules
 HasTooMany posix enc rules = HasTooManyPosixKernels enc rules
 
--- the same; and where covering words are asked for, which are of leftmost kernels always, too many of these
+-- the same by the options
 abbrev pub AreTooManyFor : Options → (rules : List Term) → Type 0
-AreTooManyFor options rules =
-    HasTooMany (policy_of options) options.enc rules ⊎ ((asks_for_cover options ≡ true) × HasTooManyKernels options.enc rules)
+AreTooManyFor options rules = HasTooMany (policy_of options) options.enc rules
 
 -- the scanner has too many kernels
 abbrev pub IsTooLarge : Options → Scanner → Type 0

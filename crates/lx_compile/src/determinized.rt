@@ -17,7 +17,7 @@ use lx_tnfa::Tnfa;
 use std::alloc::Global;
 
 /// The automaton of rules, by the trees that are meant; or the fault that they have too many kernels, for a block whose opener stands at
-/// `at`. Covering words are of leftmost kernels always, so these are counted too where they are asked for.
+/// `at`.
 pub(crate) fn determinized(
     alloc: Global,
     options: &Options,
@@ -30,11 +30,9 @@ pub(crate) fn determinized(
         (λ auto. IsAutoUnder (policy_of options.now) options.now.enc patterns auto × ¬ AreTooManyFor options.now (terms_of patterns))
         (StopsBy at (AreTooManyFor options.now (terms_of patterns))) }
 {
-    if !options.posix {
-        return determinize(alloc, t, at);
+    if options.posix {
+        determinize_posix(alloc, t, at)
+    } else {
+        determinize(alloc, t, at)
     }
-    if options.cover {
-        determinize(alloc, t, at)?;
-    }
-    determinize_posix(alloc, t, at)
 }

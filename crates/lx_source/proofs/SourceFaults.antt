@@ -57,8 +57,7 @@ faultless-one rules few scanners is at fault found =
     by (subst (λ (l : List Scanner). IsFaultOfScanners source_options at l fault) is.all found)
   where
     by : IsFaultOfScanners source_options at (is.scanner ∷ []) fault → ⊥
-    by (inl (inl (inl many, same))) = few_kernels rules few (subst (λ (l : List Term). HasTooManyKernels Byte l) is.terms many)
-    by (inl (inl (inr covered, same))) = false≢true covered.0
+    by (inl (inl (many, same))) = few_kernels rules few (subst (λ (l : List Term). HasTooManyKernels Byte l) is.terms many)
     by (inl (inr (small, (sum, long, same)))) = false≢true long.0
     by (inr none) = none.1
 
