@@ -61,7 +61,7 @@ module _ (auto : Auto) (marks : List Bool) (met : AreMet auto marks) where
     first-begun tell = record {
       some = omega (arith, ap length one);
       first = ap (λ l. get_or l 0 0) one;
-      apart = λ state other is also differ. tell state other (met-within state is) (met-within other also) differ;
+      apart = tell;
     }
 
 pub partition-begun : (auto : Auto) (partition : Partition) → IsPartition auto partition → IsBegun auto partition

@@ -14,5 +14,6 @@ mod numbering;
 mod partitions;
 mod rounds;
 mod signatures;
+mod splits;
 
 pub use minimization::minimize;

@@ -9,6 +9,7 @@ ghost use Rattle.lx_min.specs.Rounds.{IsPartition};
 
 use crate::looks::Look;
 use crate::rounds::refined;
+use crate::splits::parted;
 use lx_auto::Auto;
 use lx_base::Memory;
 use std::alloc::Global;
@@ -22,9 +23,9 @@ pub(crate) struct Partition {
     pub chosen: Vec<u32>,
 }
 
-/// The partition of the states to which walks come by what they do and by how far they are from accepting ones: a round over distances as
+/// The partition of the states to which walks come by what they do and by numbers that tell them apart: a round over the numbers as
 /// classes, of which state 0 alone is chosen.
-fn first_partition(
+pub(crate) fn first_partition(
     alloc: Global,
     auto: &Auto,
     met: &[bool],
@@ -64,6 +65,7 @@ pub(crate) fn partition_of(
         if next.chosen.len() == partition.chosen.len() {
             return Ok(partition);
         }
-        partition = next;
+        let finer = parted(alloc, auto, met, looks, &partition, next)?;
+        partition = finer;
     }
 }

@@ -8,4 +8,4 @@ abbrev pub invariant-loop-number : goal.invariant-loop-number
 invariant-loop-number l =
     (state : ℕ) → state < l.number
     → class_in l.distances state
-    ≡ distance_of l.distances l.far (state_of l.auto'.states state).accept (state_of l.auto'.states state).edges
+    ≡ distance_of l.distances l.scale (class_in l.classes state) (state_of l.auto'.states state).edges

@@ -20,6 +20,12 @@ returns-then-len c =
     c.in_ok-next.ensures c.loop-partition.invariant
     (omega (arith, c.len.ensures, c.if-len.true, c.len-in-loop-partition.ensures))
 
+pub parted-requires-clause-partition : goal.parted-requires-clause-partition
+parted-requires-clause-partition c =
+    next-partition c.args.auto.now c.args.met.now c.args.looks.now c.requires.formed c.requires.met c.requires.looks
+    c.loop-partition.partition c.in_ok-next.next (partition-begun c.args.auto.now c.loop-partition.partition c.loop-partition.invariant)
+    c.in_ok-next.ensures
+
 pub loop-partition-smaller : goal.loop-partition-smaller
 loop-partition-smaller c =
     let before = c.loop-partition.partition.chosen.items in
@@ -31,10 +37,5 @@ loop-partition-smaller c =
     let few : length after ≤ length c.args.looks.now =
     chosen-few (class_in c.loop-partition.partition.class.items) c.args.looks.now c.in_ok-next.ensures.signatures after
     c.in_ok-next.ensures.chosen in
-    omega (arith, grows, few, c.requires.looks.count, c.len.ensures, c.len-in-loop-partition.ensures, c.if-len.false)
-
-pub loop-partition-preserved : goal.loop-partition-preserved
-loop-partition-preserved c =
-    next-partition c.args.auto.now c.args.met.now c.args.looks.now c.requires.formed c.requires.met c.requires.looks
-    c.loop-partition.partition c.in_ok-next.next (partition-begun c.args.auto.now c.loop-partition.partition c.loop-partition.invariant)
-    c.in_ok-next.ensures
+    let more : length after ≤ length c.in_ok-finer.finer.chosen.items = c.in_ok-finer.ensures.more in
+    omega (arith, grows, few, more, c.requires.looks.count, c.len.ensures, c.len-in-loop-partition.ensures, c.if-len.false)
