@@ -1,4 +1,4 @@
-use Rattle.std.proofs.Common.{◌≡◌, ◌+◌, ℕ, length, sym, subst, arith}
+use Rattle.std.proofs.Common.{◌≡◌, ◌+◌, length, sym, subst, arith}
 use Rattle.lx_min.specs.Distances.{AreAccepts}
 use Rattle.lx_min.proofs.ToldByDistance.{accepts-more, accepts-none}
 use Rattle.lx_min.proofs.distances.accept_classes.Goals as goal

@@ -1,4 +1,4 @@
-use Rattle.std.proofs.Common.{length, subst}
+use Rattle.std.proofs.Common.{subst}
 use Rattle.lx_min.specs.declared.distances.Scale.{Scale}
 use Rattle.lx_min.specs.Distances.{AreDistances}
 use Rattle.lx_min.proofs.ToldByDistance.{TellApart-distances}
