@@ -9,7 +9,7 @@ ghost use Rattle.lx_min.specs.Rounds.{IsPartition};
 
 use crate::looks::Look;
 use crate::rounds::refined;
-use crate::splits::parted;
+use crate::splits::{Turns, parted};
 use lx_auto::Auto;
 use lx_base::Memory;
 use std::alloc::Global;
@@ -59,13 +59,14 @@ pub(crate) fn partition_of(
     requires apart { TellApart auto.now distances.items }
     ensures { IfOk result (λ partition. IsMinimal auto.now partition) }
 {
+    let mut turns = Turns::new();
     let mut partition = first_partition(alloc, auto, met, looks, distances)?;
     loop {
         let next = refined(alloc, met, looks, &partition)?;
         if next.chosen.len() == partition.chosen.len() {
             return Ok(partition);
         }
-        let finer = parted(alloc, auto, met, looks, &partition, next)?;
+        let finer = parted(alloc, auto, met, looks, &mut turns, &partition, next)?;
         partition = finer;
     }
 }

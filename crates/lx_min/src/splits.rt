@@ -44,13 +44,53 @@ fn split_class(alloc: Global, before: &Partition, after: &Partition) -> Result<u
     Ok(split)
 }
 
-/// Whether a round told few classes apart, at most a quarter more than there were, and there is a number for each.
-fn is_slow(before: &Partition, after: &Partition) -> bool
-    ensures { IsTrue result → length after.now.chosen.items < 4294967295 }
-{
-    let many = before.chosen.len();
-    let count = after.chosen.len();
-    count < 4294967295 && count <= many.saturating_add(many / 4)
+/// When a class is to be parted: not in the first rounds, and seldomer where that did not help.
+pub(crate) struct Turns {
+    /// How many rounds there were.
+    rounds: u32,
+    /// The round in which a class may be parted.
+    due: u32,
+}
+
+impl Drop for Turns {
+    fn drop(self) {
+        let Self { rounds: _, due: _ } = self;
+    }
+}
+
+impl Turns {
+    /// No round yet.
+    pub(crate) fn new() -> Turns {
+        Turns { rounds: 0, due: 4 }
+    }
+
+    /// Notes a round. A class is to be parted where the round is due and told few classes apart, at most a quarter more than there were,
+    /// and there is a number for each.
+    fn pass(&mut self, before: &Partition, after: &Partition) -> bool
+        ensures { IsTrue result → length after.now.chosen.items < 4294967295 }
+    {
+        let many = before.chosen.len();
+        let count = after.chosen.len();
+        self.rounds = self.rounds.saturating_add(1);
+        self.rounds >= self.due && count < 4294967295 && count <= many.saturating_add(many / 4)
+    }
+
+    /// Waits until there were twice as many rounds.
+    fn wait(&mut self) {
+        self.due = self.rounds.saturating_mul(2);
+    }
+}
+
+/// Whether some state is at least eight steps from those of other classes, so that by distances more is told than by a few rounds.
+fn are_far(distances: &[u32], step: u32) -> bool {
+    let bound = step.saturating_mul(8);
+    let far = step.saturating_mul(distances.len().min(4294967295) as u32);
+    for distance in distances {
+        if *distance >= bound && *distance <= far {
+            return true;
+        }
+    }
+    false
 }
 
 /// Where a round told few classes apart, the partition by how far the states of one that it split are from those of others, if there
@@ -60,6 +100,7 @@ pub(crate) fn parted(
     auto: &Auto,
     met: &[bool],
     looks: &[Look],
+    turns: &mut Turns,
     before: &Partition,
     after: Partition,
 ) -> Result<Partition, Memory>
@@ -70,20 +111,20 @@ pub(crate) fn parted(
     ensures partition { IfOk result (IsPartition auto.now) }
     ensures more { IfOk result (λ answer. length after.chosen.items ≤ length answer.chosen.items) }
 {
-    if !is_slow(before, &after) {
+    if !turns.pass(before, &after) {
         return Ok(after);
     }
+    let step = after.chosen.len() as u32;
     let wide = split_class(alloc, before, &after)?;
-    let numbers = distances_from(
-        alloc,
-        auto,
-        after.class.as_slice(),
-        wide,
-        after.chosen.len() as u32,
-    )?;
+    let numbers = distances_from(alloc, auto, after.class.as_slice(), wide, step)?;
+    if !are_far(numbers.as_slice(), step) {
+        turns.wait();
+        return Ok(after);
+    }
     let next = first_partition(alloc, auto, met, looks, numbers)?;
     if next.chosen.len() > after.chosen.len() {
         return Ok(next);
     }
+    turns.wait();
     Ok(after)
 }
