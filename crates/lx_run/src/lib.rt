@@ -16,4 +16,5 @@ mod windows;
 
 pub use ends::RunEnd;
 pub use runs::run_over;
+pub use streams::{Ending, ending_of};
 pub use windows::run_window;

@@ -16,5 +16,5 @@ mod warnings;
 
 pub use endings::{Ending, Halt};
 pub use lx_files::put_all;
-pub use lx_run::{RunEnd, run_window};
+pub use lx_run::{Ending as InputEnding, RunEnd, ending_of, run_window};
 pub use run::{answer, re2c, refuse_words};
