@@ -1,5 +1,6 @@
 mod pieces;
 mod reader;
+mod runs;
 mod stepper;
 mod timing;
 mod windows;
