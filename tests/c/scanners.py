@@ -276,7 +276,8 @@ class Trial:
             if made.returncode == 1:
                 # an empty rule of a context, say, is refused by its name
                 self.refused += not told
-                told.append(made.stderr)
+                # the lines before the block are not as many in each format
+                told.append(made.stderr.split(b" ", 1)[1])
                 continue
             with open(os.path.join(self.folder, "s.c"), encoding="utf-8") as file:
                 self.write("lines.h", ("\n".join(scanner.known(file.read())) + "\n").encode())
