@@ -1,6 +1,7 @@
 -- Graphs over numbers, of which each pair of neighbours is kept once.
 use Rattle.std.specs.Prelude.{◌≡◌, ◌⊎◌, ℕ, ◌<◌, List, [], ◌∷◌, ◌++◌, length, Contains, slice_index_or, slice_set}
 use Rattle.lx_regs.specs.declared.graphs.Graph.{Graph}
+use Rattle.lx_regs.specs.JoinedPairs.{IsNoted}
 
 -- the list with this number
 abbrev pub list_at : List (List ℕ) → ℕ → List ℕ
@@ -22,7 +23,7 @@ AreNeighbours graph number other = Contains (list_at graph.neighbours.items numb
 pub record IsGraph (graph : Graph) : Type 0 where
   pub both_ways : (number other : ℕ) → AreNeighbours graph number other → AreNeighbours graph other number
   pub within : (number other : ℕ) → AreNeighbours graph number other → other < size_of graph
-  pub known : (number other : ℕ) → Contains graph.pairs.keys (number, other) → AreNeighbours graph number other
+  pub known : (number other : ℕ) → IsNoted graph.pairs number other → AreNeighbours graph number other
 
 -- the pair is this one, in one order or the other
 abbrev pub IsPair : (first second number other : ℕ) → Type 0

@@ -10,6 +10,7 @@ pub mod HeldSets
 pub mod IdleOps
 pub mod Interference
 pub mod Items
+pub mod JoinedPairs
 pub mod KeptLists
 pub mod Keys
 pub mod Leaving

@@ -2,15 +2,15 @@
 ghost use Rattle.std.specs.Prelude.{◌≡◌, ℕ, ◌<◌, length, IfOk, OnOk};
 ghost use Rattle.lx_regs.specs.Graphs.{AreNeighbours, IsGraph, Joins, list_at, put_at, size_of};
 
+use crate::joined_pairs::JoinedPairs;
 use crate::lists::empty_lists;
-use indexmap::IndexSet;
 use lx_base::{Memory, Sequence};
 use std::alloc::Global;
 
 /// A graph over the numbers from 0 to below a bound.
 pub(crate) struct Graph {
     /// The pairs of neighbours, the lesser one first.
-    pairs: IndexSet<(u32, u32)>,
+    pairs: JoinedPairs,
     /// The neighbours of each number.
     neighbours: Vec<Sequence<u32>>,
 }
@@ -41,7 +41,7 @@ impl Graph {
         ensures empty { IfOk result (λ graph. (number other : ℕ) → AreNeighbours graph number other → ⊥) }
     {
         Ok(Graph {
-            pairs: IndexSet::new(alloc),
+            pairs: JoinedPairs::new(alloc, size)?,
             neighbours: empty_lists(alloc, size)?,
         })
     }
@@ -70,7 +70,7 @@ impl Graph {
         requires second { second < size_of self.old }
         ensures { OnOk result (Joins self.old self.new first second) }
     {
-        if self.pairs.insert((first, second))? {
+        if self.pairs.note(first, second)? {
             put(&mut self.neighbours, first, second)?;
             put(&mut self.neighbours, second, first)?;
         }

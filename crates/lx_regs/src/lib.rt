@@ -19,6 +19,7 @@ mod hints;
 mod idle_ops;
 mod interference;
 mod items;
+mod joined_pairs;
 mod kept_lists;
 mod keys;
 pub mod laws;

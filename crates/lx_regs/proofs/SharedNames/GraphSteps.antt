@@ -7,6 +7,7 @@ use Rattle.std.specs.List.{list_any}
 use Rattle.std.specs.Prelude.{◌⊎◌}
 use Rattle.lx_auto.proofs.SameLists.{Contains-later}
 use Rattle.lx_regs.specs.declared.graphs.Graph.{Graph}
+use Rattle.lx_regs.specs.JoinedPairs.{IsNoted}
 use Rattle.lx_regs.specs.Graphs.{AreNeighbours, IsGraph, IsPair, Joins, list_at, put_at, size_of}
 use Rattle.lx_regs.proofs.SharedNames.GraphLists.{put_at-kept, put_at-new, put_at-only}
 
@@ -54,14 +55,14 @@ module _ (first second : ℕ) where
 
 module _ (old new : Graph) (first second : ℕ) (is : IsGraph old) where
   -- they were neighbours
-  pub Joins-known : Contains old.pairs.keys (first, second) → new.pairs.keys ≡ old.pairs.keys
+  pub Joins-known : IsNoted old.pairs first second
+      → ((number other : ℕ) → IsNoted new.pairs number other → IsNoted old.pairs number other ⊎ ((number ≡ first) × (other ≡ second)))
       → new.neighbours.items ≡ old.neighbours.items → Joins old new first second
   Joins-known has pairs lists = record {
     graph = record {
       both_ways = λ number other near. back other number (is.both_ways number other (forth number other near));
       within = λ number other near. subst (λ l. other < length l) (sym lists) (is.within number other (forth number other near));
-      known = λ number other there.
-          back number other (is.known number other (subst (λ l. Contains l (number, other)) pairs there));
+      known = λ number other there. back number other (was number other (pairs number other there));
     };
     size = ap length lists;
     joined = back first second (is.known first second has);
@@ -69,6 +70,12 @@ module _ (old new : Graph) (first second : ℕ) (is : IsGraph old) where
     only = λ number other near. inl (forth number other near);
   }
     where
+      was : (number other : ℕ) → IsNoted old.pairs number other ⊎ ((number ≡ first) × (other ≡ second)) → AreNeighbours old number other
+      was number other (inl there) = is.known number other there
+      was number other (inr same) =
+          subst (λ n. AreNeighbours old n other) (sym same.0)
+          (subst (λ n. AreNeighbours old first n) (sym same.1) (is.known first second has))
+
       forth : (number other : ℕ) → AreNeighbours new number other → AreNeighbours old number other
       forth number other near = subst (λ l. Contains (list_at l number) other) lists near
 
@@ -77,8 +84,8 @@ module _ (old new : Graph) (first second : ℕ) (is : IsGraph old) where
 
   module _ (in_first : first < size_of old) (in_second : second < size_of old)
       (lists : new.neighbours.items ≡ put_at (put_at old.neighbours.items first second) second first)
-      (pairs : (number other : ℕ) → Contains new.pairs.keys (number, other)
-      → Contains old.pairs.keys (number, other) ⊎ ((number ≡ first) × (other ≡ second))) where
+      (pairs : (number other : ℕ) → IsNoted new.pairs number other
+      → IsNoted old.pairs number other ⊎ ((number ≡ first) × (other ≡ second))) where
     once : List (List ℕ)
     once = put_at old.neighbours.items first second
 
@@ -154,10 +161,10 @@ module _ (old new : Graph) (first second : ℕ) (is : IsGraph old) where
         at (inr (inl same)) = subst (λ n. n < size_of old) (sym same.1) in_second
         at (inr (inr same)) = subst (λ n. n < size_of old) (sym same.1) in_first
 
-    known : (number other : ℕ) → Contains new.pairs.keys (number, other) → AreNeighbours new number other
+    known : (number other : ℕ) → IsNoted new.pairs number other → AreNeighbours new number other
     known number other has = at (pairs number other has)
       where
-        at : Contains old.pairs.keys (number, other) ⊎ ((number ≡ first) × (other ≡ second)) → AreNeighbours new number other
+        at : IsNoted old.pairs number other ⊎ ((number ≡ first) × (other ≡ second)) → AreNeighbours new number other
         at (inl before) = kept number other (is.known number other before)
         at (inr same) = at_pair number other (inl same)
 

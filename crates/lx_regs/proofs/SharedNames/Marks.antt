@@ -13,7 +13,7 @@ use Rattle.lx_regs.specs.Colours.{IsLeastFree, IsTaken, mark_at, mark_each, mark
 
 -- ---- one mark
 
-set-either : (marks : List Bool) (place colour : ℕ) → mark_at (set marks place true) colour ≡ true
+pub set-either : (marks : List Bool) (place colour : ℕ) → mark_at (set marks place true) colour ≡ true
     → (mark_at marks colour ≡ true) ⊎ (place ≡ colour)
 set-either [] place colour marked = inl marked
 set-either (mark ∷ marks) zero zero marked = inr refl
@@ -37,7 +37,7 @@ set-new [] place within = absurd (omega arith)
 set-new (mark ∷ marks) zero within = refl
 set-new (mark ∷ marks) (suc place) within = set-new marks place (omega arith)
 
-mark_at-none : (count colour : ℕ) → mark_at (replicate count false) colour ≡ true → ⊥
+pub mark_at-none : (count colour : ℕ) → mark_at (replicate count false) colour ≡ true → ⊥
 mark_at-none zero colour marked = cc marked
 mark_at-none (suc count) zero marked = cc marked
 mark_at-none (suc count) (suc colour) marked = mark_at-none count colour marked
