@@ -2,7 +2,7 @@
 use Rattle.std.proofs.Common.{◌≡◌, ℕ, zero, suc, ◌<◌, List, [], ◌∷◌, length, refl, Contains, ap, arith}
 use Rattle.std.proofs.Common.{inl, inr}
 use Rattle.std.proofs.lemmas.List.Elements.{Contains-append_left, Contains-push, Contains-push_cases}
-use Rattle.std.specs.Prelude.{◌⊎◌}
+use Rattle.std.specs.Prelude.{◌⊎◌, replicate}
 use Rattle.lx_regs.specs.Graphs.{list_at, put_at}
 
 pub put_at-kept : (lists : List (List ℕ)) (number item at other : ℕ) → Contains (list_at lists at) other
@@ -34,3 +34,9 @@ put_at-only (list ∷ lists) (suc number) item (suc at) other has = by (put_at-o
         → Contains (list_at lists at) other ⊎ ((suc at ≡ suc number) × (other ≡ item))
     by (inl there) = inl there
     by (inr same) = inr (ap suc same.0, same.1)
+
+-- empty lists have nothing
+pub list_at-none : (size number other : ℕ) → Contains (list_at (replicate size []) number) other → ⊥
+list_at-none zero number other has = absurd (omega (arith, has.1))
+list_at-none (suc size) zero other has = absurd (omega (arith, has.1))
+list_at-none (suc size) (suc number) other has = list_at-none size number other has

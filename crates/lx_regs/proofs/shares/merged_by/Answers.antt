@@ -1,6 +1,6 @@
-use Rattle.std.proofs.Common.{◌<◌, ◌∙◌, Contains, subst, sym}
+use Rattle.std.proofs.Common.{◌<◌, ◌∙◌, Contains, subst, sym, arith}
 use Rattle.std.specs.Prelude.{map, slice_index}
-use Rattle.lx_regs.specs.Graphs.{JoinsEach}
+use Rattle.lx_regs.specs.Graphs.{JoinsEach, size_of}
 use Rattle.lx_regs.proofs.SharedNames.Merges.{merges-begin, merges-pushed}
 use Rattle.lx_regs.proofs.shares.merged_by.Goals as goal
 
@@ -21,3 +21,16 @@ loop-number-preserved c =
     merges-pushed c.args.graph.now c.requires.graph colours bound c.loop-number.merged c.join_colours.new.merged c.loop-number.invariant
     (subst (λ l. JoinsEach c.loop-number.merged c.join_colours.new.merged (slice_index colours bound) (map (slice_index colours) l))
     c.neighbours_of.ensures c.in_ok-join_colours.ensures)
+
+pub returns : goal.returns
+returns c =
+    let graph = c.args.graph.now in
+    let known = c.loop-number.invariant in
+    record {
+      formed = known.formed;
+      size = known.size;
+      has = λ number other near.
+          let within : number < size_of graph = c.requires.graph.within other number (c.requires.graph.both_ways number other near) in
+          known.has number other (omega (arith, within, c.size-number-end.ensures)) near;
+      only = known.only;
+    }

@@ -1,7 +1,7 @@
 -- A pair without a place in a row is noted in the set.
 use Rattle.std.proofs.Common.{◌≡◌, ℕ, ◌+◌, ◌*◌, ◌<◌, List, true, Contains, inl, inr}
 use Rattle.std.specs.Prelude.{◌⊎◌}
-use Rattle.lx_regs.specs.JoinedPairs.{IsNoted, is_marked_at, row_length}
+use Rattle.lx_regs.specs.JoinedPairs.{is_marked_at, row_length}
 use Rattle.lx_regs.proofs.SharedNames.GraphSteps.{pair-inserted, pair-known}
 use Rattle.lx_regs.proofs.joined_pairs.JoinedPairs.note.Goals as goal
 
