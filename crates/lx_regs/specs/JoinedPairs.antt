@@ -4,7 +4,7 @@ use Rattle.lx_regs.specs.declared.joined_pairs.JoinedPairs.{JoinedPairs}
 
 -- how many places the row of a number has
 abbrev pub row_length : ℕ
-row_length = 1024
+row_length = 2048
 
 -- whether a place is marked
 abbrev pub is_marked_at : List Bool → (place : ℕ) → Bool

@@ -6,8 +6,8 @@ use indexmap::IndexSet;
 use lx_base::Memory;
 use std::alloc::Global;
 
-/// How many places the row of a number has. Graphs of no more numbers have rows.
-const ROW_LENGTH: usize = 1024;
+/// How many places the row of a number has. Graphs of no more numbers have rows, of at most four mebibytes together.
+const ROW_LENGTH: usize = 2048;
 
 /// Pairs of numbers below a bound. Where they are few, each number has a row with a place for each other one, so that a pair is found
 /// without a hash.

@@ -13,7 +13,7 @@ ghost use Rattle.lx_regs.specs.OrderedOps.{Ascend, number_of};
 use crate::effects::Single;
 use crate::lists::empty_lists;
 use crate::name_tables::NameTable;
-use crate::ordered::{ascend, number_of, single_by_halves};
+use crate::ordered::{ascend, number_of, place_from, single_near};
 use lx_auto::{Auto, Held, Op};
 use lx_base::{Memory, Sequence};
 use std::alloc::Global;
@@ -33,6 +33,15 @@ impl Drop for ListRenaming {
             members: _,
         } = self;
     }
+}
+
+/// The places at which a register and its name are looked for first in two lists. They may be wrong.
+#[derive(Clone, Copy)]
+struct Near {
+    /// In the given list.
+    given: usize,
+    /// In that of the answer.
+    answer: usize,
 }
 
 /// Notes that a register has a name, where the name is below how many there are.
@@ -82,16 +91,35 @@ impl ListRenaming {
         }
     }
 
+    /// Where a register of a greater number is looked for first in two lists.
+    fn reach(&self, near: Near, ops: &[Op], others: &[Op], reg: u32) -> Near {
+        match self.names.get(reg as usize) {
+            Some(name) => Near {
+                given: place_from(ops, near.given, reg),
+                answer: place_from(others, near.answer, *name),
+            },
+            None => near,
+        }
+    }
+
+    /// The same of the first one of some registers.
+    fn reach_first(&self, near: Near, ops: &[Op], others: &[Op], registers: &[u32]) -> Near {
+        match registers.first() {
+            Some(reg) => self.reach(near, ops, others, *reg),
+            None => near,
+        }
+    }
+
     /// Whether two lists do the same to a register.
-    fn keeps(&self, ops: &[Op], others: &[Op], reg: u32) -> bool
+    fn keeps(&self, ops: &[Op], others: &[Op], reg: u32, near: Near) -> bool
         requires order { Ascend ops.now }
         requires also { Ascend others.now }
         ensures { IsTrue result → IsKept self.now.names.items ops.now others.now reg }
     {
         match self.names.get(reg as usize) {
             Some(name) => {
-                let ours = single_by_halves(others, *name);
-                self.is_alike(ours, single_by_halves(ops, reg))
+                let ours = single_near(others, *name, near.answer);
+                self.is_alike(ours, single_near(ops, reg, near.given))
             }
             None => false,
         }
@@ -104,8 +132,14 @@ impl ListRenaming {
         ensures { IsTrue result → (place : ℕ) → place < length ops.now
             → IsKept self.now.names.items ops.now others.now (number_of (slice_index_or ops.now place (Here 0))) }
     {
+        let mut near = Near {
+            given: 0,
+            answer: 0,
+        };
         for op in ops {
-            if !self.keeps(ops, others, number_of(*op)) {
+            let reg = number_of(*op);
+            near = self.reach(near, ops, others, reg);
+            if !self.keeps(ops, others, reg, near) {
                 return false;
             }
         }
@@ -113,13 +147,13 @@ impl ListRenaming {
     }
 
     /// Whether two lists do the same to registers.
-    fn keeps_all(&self, ops: &[Op], others: &[Op], registers: &[u32]) -> bool
+    fn keeps_all(&self, ops: &[Op], others: &[Op], registers: &[u32], near: Near) -> bool
         requires order { Ascend ops.now }
         requires also { Ascend others.now }
         ensures { IsTrue result → All (IsKept self.now.names.items ops.now others.now) registers.now }
     {
         for reg in registers {
-            if !self.keeps(ops, others, *reg) {
+            if !self.keeps(ops, others, *reg, near) {
                 return false;
             }
         }
@@ -134,11 +168,16 @@ impl ListRenaming {
             → All (IsKept self.now.names.items ops.now others.now)
             (members_at self.now.members.items (number_of (slice_index_or others.now place (Here 0)))) }
     {
+        let mut near = Near {
+            given: 0,
+            answer: 0,
+        };
         for op in others {
             let Some(registers) = self.members.get(number_of(*op) as usize) else {
                 return false;
             };
-            if !self.keeps_all(ops, others, registers.as_slice()) {
+            near = self.reach_first(near, ops, others, registers.as_slice());
+            if !self.keeps_all(ops, others, registers.as_slice(), near) {
                 return false;
             }
         }

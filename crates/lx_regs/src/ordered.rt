@@ -63,3 +63,27 @@ pub(crate) fn single_by_halves(ops: &[Op], reg: u32) -> Single
     }
     Single::From(reg)
 }
+
+/// The same of a register that is looked for at a place first.
+pub(crate) fn single_near(ops: &[Op], reg: u32, place: usize) -> Single
+    requires { Ascend ops.now }
+    ensures { single_effect result ≡ effect_of ops.now (Reg reg) }
+{
+    if place < ops.len() {
+        let op = ops[place];
+        if number_of(op) == reg {
+            return single_behind(op, reg, Single::From(reg));
+        }
+    }
+    single_by_halves(ops, reg)
+}
+
+/// The first place from a given one on at which a list writes no register of a lesser number. No clause says so: it is where a register is
+/// looked for first.
+pub(crate) fn place_from(ops: &[Op], place: usize, number: u32) -> usize {
+    let mut at = place;
+    while at < ops.len() && number_of(ops[at]) < number {
+        at += 1;
+    }
+    at
+}

@@ -9,4 +9,4 @@ pub loop-op-preserved : goal.loop-op-preserved
 loop-op-preserved c =
     let P : ℕ → Type 0 = IsKept c.args.self.now.names.items c.args.ops.now c.args.others.now in
     each-more (λ place. P (number_of (get_or c.args.ops.now place (Here 0)))) c.loop-op.op-index c.loop-op.invariant
-    (subst P c.number_of.ensures (c.keeps.ensures c.if-not-keeps.false))
+    (subst P c.number_of-reg.ensures (c.keeps.ensures c.if-not-keeps.false))
