@@ -14,3 +14,4 @@ pub mod PriorItems
 pub mod ReadEffects
 pub mod ReaderSteps
 pub mod RightItems
+pub mod UsageOrder

@@ -5,7 +5,6 @@ pub mod GraphLists
 pub mod GraphSteps
 pub mod GroupLists
 pub mod InterferenceSteps
-pub mod KeyOrder
 pub mod KeyTests
 pub mod Marks
 pub mod Merges

@@ -1,5 +1,5 @@
 -- The registers that are live behind an edge, as a list.
-use Rattle.std.specs.Prelude.{ℕ, ◌<◌, List, AllPairs, Contains, length}
+use Rattle.std.specs.Prelude.{◌≡◌, ◌⊎◌, ℕ, ◌<◌, List, AllPairs, Contains, IsPermutation, length}
 use Rattle.lx_auto.specs.declared.automaton.Auto.{Auto}
 use Rattle.lx_auto.specs.declared.automaton.Edge.{Edge}
 use Rattle.lx_auto.specs.declared.automaton.Held.{Held}
@@ -12,8 +12,9 @@ use Rattle.lx_regs.specs.declared.live.Liveness.{Liveness}
 use Rattle.lx_regs.specs.declared.live.Usage.{Usage}
 use Rattle.lx_regs.specs.declared.reached.Pair.{Pair}
 use Rattle.lx_regs.specs.Items.{AreItems}
+use Rattle.lx_regs.specs.Keys.{held_of}
 use Rattle.lx_regs.specs.LeftGroups.{AreGroups}
-use Rattle.lx_regs.specs.Liveness.{AreMarked, AreSorted}
+use Rattle.lx_regs.specs.Liveness.{AreMarked, AreSorted, usages_at}
 use Rattle.lx_regs.specs.Reached.{ArePairs}
 
 -- these are the registers that are live behind an edge out of a state, at some point of the state to which a walk comes
@@ -32,11 +33,31 @@ IsBefore (MReg mreg) (MReg other) = mreg < other
 abbrev pub AreAscending : List Held → Type 0
 AreAscending registers = AllPairs IsBefore registers
 
--- the lists have at each state what is live there
-pub record AreUsages (auto : Auto) (numbers : List ℕ) (lists : List (List Key)) (pairs : List Pair) (usages : List (List Usage)) : Type 0 where
+-- the one is before the other, or they are the same
+abbrev pub IsUpTo : Held → Held → Type 0
+IsUpTo held other = IsBefore held other ⊎ (held ≡ other)
+
+-- none is behind this one
+abbrev pub AreUpTo : List Held → Held → Type 0
+AreUpTo registers held = (other : Held) → Contains registers other → IsUpTo other held
+
+-- by registers in ascending order, so that usages of one register stand together
+abbrev pub AreInOrder : List Usage → Type 0
+AreInOrder usages = AllPairs (λ (usage : Usage) (other : Usage). IsUpTo (held_of usage.key) (held_of other.key)) usages
+
+-- the same usages at each state, in that order
+pub record AreOrdered (lists ordered : List (List Usage)) : Type 0 where
+  pub fit : length ordered ≡ length lists
+  pub same : (state : ℕ) → IsPermutation (usages_at lists state) (usages_at ordered state)
+  pub order : (state : ℕ) → AreInOrder (usages_at ordered state)
+
+-- the lists have at each state what is live there, in order
+pub record AreUsages (auto : Auto) (numbers : List ℕ) (lists : List (List Key)) (pairs : List Pair) (usages : List (List Usage))
+    : Type 0 where
   pub items : List Item
   pub live : AreItems auto numbers lists pairs items
   pub sorted : AreSorted (length auto.states) items usages
+  pub order : (state : ℕ) → AreInOrder (usages_at usages state)
 
 -- what is kept comes of a well-formed automaton's groups, pairs and items
 pub record IsLivenessOf (auto : Auto) (liveness : Liveness) : Type 0 where
@@ -48,3 +69,4 @@ pub record IsLivenessOf (auto : Auto) (liveness : Liveness) : Type 0 where
   pub marks : AreMarked (length auto.states) liveness.pairs liveness.marks.items
   pub live : AreItems auto liveness.numbers.items lists liveness.pairs items
   pub usages : AreSorted (length auto.states) items liveness.usages.items
+  pub order : (state : ℕ) → AreInOrder (usages_at liveness.usages.items state)

@@ -1,11 +1,12 @@
 -- What is kept of the live registers of an automaton.
 use Rattle.std.specs.Bool.{MatchBool}
 use Rattle.std.specs.Prelude.{◌≡◌, ◌⊎◌, ℕ, ◌<◌, List, [], length, Bool, true, false, Contains, nat_eq, slice_index, slice_index_or}
+use Rattle.lx_auto.specs.declared.automaton.Held.{Held}
 use Rattle.lx_regs.specs.declared.items.Item.{Item}
-use Rattle.lx_regs.specs.declared.keys.Key.{Key}
 use Rattle.lx_regs.specs.declared.live.Usage.{Usage}
 use Rattle.lx_regs.specs.declared.reached.Pair.{Pair}
 use Rattle.lx_regs.specs.Items.{MayBeLeft}
+use Rattle.lx_regs.specs.Keys.{held_of}
 
 -- the usages at a state
 abbrev pub usages_at : (lists : List (List Usage)) → (state : ℕ) → List Usage
@@ -32,14 +33,16 @@ abbrev pub MayBeThere : (numbers : List ℕ) → List Pair → (state group : �
 MayBeThere numbers pairs state group = MatchBool (nat_eq (slice_index numbers state) 0) (MayBeLeft pairs state group)
     ((group ≡ 0) ⊎ (group ≡ slice_index numbers state))
 
--- these are the keys of such usages
-pub record AreKeysBehind (numbers : List ℕ) (pairs : List Pair) (state : ℕ) (usages : List Usage) (keys : List Key) : Type 0 where
-  pub sound : (key : Key) → Contains keys key
-      → (group : ℕ) × Contains usages (record { group = group; key = key }) × MayBeThere numbers pairs state group
-  pub complete : (usage : Usage) → Contains usages usage → MayBeThere numbers pairs state usage.group → Contains keys usage.key
+-- these are the registers of such usages
+pub record AreHeldBehind (numbers : List ℕ) (pairs : List Pair) (state : ℕ) (usages : List Usage) (registers : List Held) : Type 0 where
+  pub sound : (held : Held) → Contains registers held
+      → (usage : Usage) × Contains usages usage × (held_of usage.key ≡ held) × MayBeThere numbers pairs state usage.group
+  pub complete : (usage : Usage) → Contains usages usage → MayBeThere numbers pairs state usage.group
+      → Contains registers (held_of usage.key)
 
--- the key of the usage is added, if it may be there
-pub record AddsUsage (numbers : List ℕ) (pairs : List Pair) (state : ℕ) (usage : Usage) (old new : List Key) : Type 0 where
-  pub kept : (key : Key) → Contains old key → Contains new key
-  pub sound : (key : Key) → Contains new key → Contains old key ⊎ ((key ≡ usage.key) × MayBeThere numbers pairs state usage.group)
-  pub complete : MayBeThere numbers pairs state usage.group → Contains new usage.key
+-- the register of the usage is added, if it may be there
+pub record AddsUsage (numbers : List ℕ) (pairs : List Pair) (state : ℕ) (usage : Usage) (old new : List Held) : Type 0 where
+  pub kept : (held : Held) → Contains old held → Contains new held
+  pub sound : (held : Held) → Contains new held
+      → Contains old held ⊎ ((held_of usage.key ≡ held) × MayBeThere numbers pairs state usage.group)
+  pub complete : MayBeThere numbers pairs state usage.group → Contains new (held_of usage.key)

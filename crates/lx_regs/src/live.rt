@@ -1,10 +1,10 @@
 //! Which registers are live behind the edges of an automaton.
-ghost use Rattle.std.specs.Prelude.{◌≡◌, ◌↔◌, ℕ, ◌<◌, None, Contains, IfOk, IsTrue, OnOk, length, map, slice_index};
+ghost use Rattle.std.specs.Prelude.{◌≡◌, ◌↔◌, ℕ, ◌-◌, ◌<◌, None, Contains, IfOk, IsPermutation, IsTrue, OnOk, length, slice_get, slice_index};
 ghost use Rattle.lx_auto.specs.Automaton.{IsAuto, state_of};
 ghost use Rattle.lx_regs.specs.Keys.{held_of};
 ghost use Rattle.lx_regs.specs.LeftGroups.{AreGroups, lists_of};
-ghost use Rattle.lx_regs.specs.LiveSets.{AreAscending, AreLiveBehind, AreUsages, IsLivenessOf};
-ghost use Rattle.lx_regs.specs.Liveness.{AddsUsage, AreKeysBehind, AreMarked, AreSorted, MayBeThere};
+ghost use Rattle.lx_regs.specs.LiveSets.{AreAscending, AreInOrder, AreLiveBehind, AreOrdered, AreUpTo, AreUsages, IsLivenessOf};
+ghost use Rattle.lx_regs.specs.Liveness.{AddsUsage, AreHeldBehind, AreMarked, AreSorted, MayBeThere};
 ghost use Rattle.lx_regs.specs.Reached.{ArePairs};
 ghost use Rattle.lx_regs.specs.declared.items.Item.{Item as ItemValue};
 ghost use Rattle.lx_regs.specs.declared.reached.Pair.{Pair as PairValue};
@@ -18,7 +18,6 @@ use crate::reached::{Pair, reached_pairs};
 use lx_auto::{Auto, Edge, Held};
 use lx_base::{Memory, Sequence};
 use std::alloc::Global;
-use std::collections::BTreeSet;
 
 /// A register that is live at a state: whatever was left last where the group is 0, and else where a state of the group was.
 #[derive(Clone, Copy)]
@@ -35,7 +34,7 @@ pub(crate) struct Liveness {
     pairs: Found<Pair>,
     /// For each state, whether some walk comes to it.
     marks: Vec<bool>,
-    /// For each state what is live there.
+    /// For each state what is live there, by registers in ascending order.
     usages: Vec<Sequence<Usage>>,
 }
 
@@ -63,6 +62,27 @@ fn by_state(alloc: Global, count: usize, items: &[Item]) -> Result<Vec<Sequence<
         })?;
     }
     Ok(lists)
+}
+
+/// The usages of a state, by registers in ascending order.
+fn in_order(usages: Sequence<Usage>) -> Sequence<Usage>
+    ensures same { IsPermutation usages result }
+    ensures order { AreInOrder result }
+{
+    let mut usages = usages.into_vec();
+    usages.sort_unstable_by_key(|usage| usage.key);
+    Sequence::from_vec(usages)
+}
+
+/// For each state its usages, by registers in ascending order.
+fn each_in_order(alloc: Global, lists: Vec<Sequence<Usage>>) -> Result<Vec<Sequence<Usage>>, Memory>
+    ensures { IfOk result (λ ordered. AreOrdered lists.items ordered.items) }
+{
+    let mut ordered = Vec::new(alloc);
+    for usages in lists {
+        ordered.push(in_order(usages))?;
+    }
+    Ok(ordered)
 }
 
 /// For each state, whether some walk comes to it.
@@ -95,7 +115,7 @@ fn pairs_and_marks(
     Ok((pairs, marks))
 }
 
-/// For each state what is live there, by groups and pairs.
+/// For each state what is live there, by groups and pairs, and by registers in ascending order.
 fn usages_of(
     alloc: Global,
     auto: &Auto,
@@ -108,7 +128,8 @@ fn usages_of(
     ensures { IfOk result (λ usages. AreUsages auto.now groups.now.numbers.items (lists_of groups.now.lists.keys) pairs.now usages.items) }
 {
     let items = live_items(alloc, auto, groups, pairs)?;
-    by_state(alloc, auto.states.as_slice().len(), items.as_slice())
+    let lists = by_state(alloc, auto.states.as_slice().len(), items.as_slice())?;
+    each_in_order(alloc, lists)
 }
 
 /// What is live in an automaton.
@@ -127,16 +148,14 @@ pub(crate) fn liveness_of(alloc: Global, auto: &Auto) -> Result<Liveness, Memory
     })
 }
 
-/// Where values are held, from keys in order.
-fn held_in_order(alloc: Global, keys: &BTreeSet<Key>) -> Result<Vec<Held>, Memory>
-    ensures held { IfOk result (λ registers. registers.items ≡ map held_of keys.now.keys) }
-    ensures order { IfOk result (λ registers. AreAscending registers.items) }
+/// Whether a list ends with this register.
+fn ends_with(registers: &[Held], held: Held) -> bool
+    ensures { IsTrue result ↔ (slice_get registers.now (length registers.now - 1) ≡ Some held) }
 {
-    let mut registers = Vec::new(alloc);
-    for key in keys.iter() {
-        registers.push(held_of(*key))?;
+    match registers.last() {
+        Some(last) => *last == held,
+        None => false,
     }
-    Ok(registers)
 }
 
 impl Liveness {
@@ -152,33 +171,34 @@ impl Liveness {
         group == 0 || group == own
     }
 
-    /// Adds the key of a usage that may be live behind an edge out of a state.
-    fn add_usage(&self, keys: &mut BTreeSet<Key>, state: u32, usage: Usage) -> Result<(), Memory>
-        requires { state < length self.now.numbers.items }
-        ensures { OnOk result (AddsUsage self.now.numbers.items self.now.pairs state usage keys.old.keys keys.new.keys) }
+    /// Adds the register of a usage that may be live behind an edge out of a state, where it is not the last of the list yet.
+    fn add_usage(&self, registers: &mut Vec<Held>, state: u32, usage: Usage) -> Result<(), Memory>
+        requires within { state < length self.now.numbers.items }
+        requires order { AreAscending registers.old.items }
+        requires behind { AreUpTo registers.old.items (held_of usage.key) }
+        ensures adds { OnOk result (AddsUsage self.now.numbers.items self.now.pairs state usage registers.old.items registers.new.items) }
+        ensures order { OnOk result (AreAscending registers.new.items) }
     {
-        if !self.may_be_there(state, usage.group) {
+        let held = held_of(usage.key);
+        if ends_with(registers, held) || !self.may_be_there(state, usage.group) {
             return Ok(());
         }
-        keys.insert(usage.key)?;
+        registers.push(held)?;
         Ok(())
     }
 
-    /// The keys of what is live behind an edge out of a state to which some walk comes.
-    fn keys_behind(
-        &self,
-        alloc: Global,
-        state: u32,
-        usages: &[Usage],
-    ) -> Result<BTreeSet<Key>, Memory>
-        requires { state < length self.now.numbers.items }
-        ensures { IfOk result (λ keys. AreKeysBehind self.now.numbers.items self.now.pairs state usages.now keys.keys) }
+    /// The registers of what is live behind an edge out of a state to which some walk comes.
+    fn held_behind(&self, alloc: Global, state: u32, usages: &[Usage]) -> Result<Vec<Held>, Memory>
+        requires within { state < length self.now.numbers.items }
+        requires order { AreInOrder usages.now }
+        ensures held { IfOk result (λ registers. AreHeldBehind self.now.numbers.items self.now.pairs state usages.now registers.items) }
+        ensures order { IfOk result (λ registers. AreAscending registers.items) }
     {
-        let mut keys = BTreeSet::new(alloc);
+        let mut registers = Vec::new(alloc);
         for usage in usages {
-            self.add_usage(&mut keys, state, *usage)?;
+            self.add_usage(&mut registers, state, *usage)?;
         }
-        Ok(keys)
+        Ok(registers)
     }
 
     /// The registers that are live behind an edge out of a state, each once, registers before m-registers, in ascending order.
@@ -199,8 +219,6 @@ impl Liveness {
             return Ok(Vec::new(alloc));
         }
         let usages = self.usages[edge.to as usize].as_slice();
-        let keys = self.keys_behind(alloc, state, usages)?;
-        let registers = held_in_order(alloc, &keys)?;
-        Ok(registers)
+        self.held_behind(alloc, state, usages)
     }
 }

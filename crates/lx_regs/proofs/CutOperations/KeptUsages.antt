@@ -1,19 +1,15 @@
 -- How what is kept of the live registers is filled, step by step.
 use Rattle.std.proofs.Common.{◌≡◌, ℕ, zero, suc, ◌+◌, ◌<◌, ◌⊎◌, inl, inr, arith, Bool, true, false, List, [], ◌∷◌, ◌++◌, length, get_or, set, take, refl, sym, ap, ◌∙◌, subst}
-use Rattle.std.specs.Prelude.{◌≢◌, ◌↔◌, Contains, IsTrue, replicate, if◌then◌else◌}
+use Rattle.std.specs.Prelude.{◌≢◌, Contains, replicate}
 use Rattle.std.proofs.lemmas.Bool.{cases_eq, false≢true}
 use Rattle.std.proofs.lemmas.List.{get_or-set_other, get_or-set_same, get_or_default, length-replicate, length-set, take_more}
 use Rattle.std.proofs.lemmas.List.Elements.{Contains-append_left, Contains-push, Contains-push_cases}
-use Rattle.std.proofs.lemmas.Map.Views.{btree_set_contains_iff}
-use Rattle.std.specs.BTreeMap.{is_at}
-use Rattle.std.specs.BTreeSet.{BTreeSet, contains, contains_by}
-use Rattle.lx_regs.specs.contracts.keys.KeyOrd.TheImpl.{cmp-value}
+use Rattle.lx_auto.specs.declared.automaton.Held.{Held}
 use Rattle.lx_regs.specs.declared.items.Item.{Item}
-use Rattle.lx_regs.specs.declared.keys.Key.{Key}
 use Rattle.lx_regs.specs.declared.live.Usage.{Usage}
 use Rattle.lx_regs.specs.declared.reached.Pair.{Pair}
-use Rattle.lx_regs.specs.Liveness.{AddsUsage, AreKeysBehind, AreMarked, AreSorted, MayBeThere, usages_at}
-use Rattle.lx_regs.proofs.SharedNames.KeyOrder.{keys_total, same_at, same_key}
+use Rattle.lx_regs.specs.Keys.{held_of}
+use Rattle.lx_regs.specs.Liveness.{AddsUsage, AreHeldBehind, AreMarked, AreSorted, MayBeThere, usages_at}
 
 front-more : {X : Type 0} (xs : List X) (place : ℕ) (d : X) → place < length xs
     → take (place + 1) xs ≡ take place xs ++ get_or xs place d ∷ []
@@ -147,64 +143,57 @@ module _ (count : ℕ) (pairs : List Pair) (place : ℕ) (d : Pair) (marks : Lis
         (subst (λ l. Contains l pair) (front-more pairs place d within) has));
   }
 
--- ---- keys behind an edge
+-- ---- registers behind an edge
 
 module _ (numbers : List ℕ) (pairs : List Pair) (state : ℕ) (usages : List Usage) where
-  pub behind-more : (place : ℕ) (d : Usage) (keys new : List Key) → place < length usages
-      → AddsUsage numbers pairs state (get_or usages place d) keys new
-      → AreKeysBehind numbers pairs state (take place usages) keys → AreKeysBehind numbers pairs state (take (place + 1) usages) new
-  behind-more place d keys new within adds are = record {
-    sound = λ key has. sound key (adds.sound key has);
+  pub behind-more : (place : ℕ) (d : Usage) (registers new : List Held) → place < length usages
+      → AddsUsage numbers pairs state (get_or usages place d) registers new
+      → AreHeldBehind numbers pairs state (take place usages) registers → AreHeldBehind numbers pairs state (take (place + 1) usages) new
+  behind-more place d registers new within adds are = record {
+    sound = λ held has. sound held (adds.sound held has);
     complete = λ usage has may_be. complete usage may_be
         (Contains-push_cases (take place usages) (get_or usages place d) usage
         (subst (λ l. Contains l usage) (front-more usages place d within) has));
   }
     where
-      sound : (key : Key) → Contains keys key ⊎ ((key ≡ (get_or usages place d).key) × MayBeThere numbers pairs state (get_or usages place d).group)
-          → (group : ℕ) × Contains (take (place + 1) usages) (record { group = group; key = key }) × MayBeThere numbers pairs state group
-      sound key (inl was) = let (group, has, may_be) = are.sound key was in (
-        group,
-        subst (λ l. Contains l (record { group = group; key = key })) (sym (front-more usages place d within))
-            (Contains-append_left (take place usages) (get_or usages place d ∷ []) (record { group = group; key = key }) has),
+      sound : (held : Held)
+          → Contains registers held
+          ⊎ ((held_of (get_or usages place d).key ≡ held) × MayBeThere numbers pairs state (get_or usages place d).group)
+          → (usage : Usage) × Contains (take (place + 1) usages) usage × (held_of usage.key ≡ held)
+          × MayBeThere numbers pairs state usage.group
+      sound held (inl was) = let (usage, has, same, may_be) = are.sound held was in (
+        usage,
+        subst (λ l. Contains l usage) (sym (front-more usages place d within))
+            (Contains-append_left (take place usages) (get_or usages place d ∷ []) usage has),
+        same,
         may_be,
       )
-      sound key (inr (same, may_be)) = (
-        (get_or usages place d).group,
-        subst (λ k. Contains (take (place + 1) usages) (record { group = (get_or usages place d).group; key = k })) (sym same)
-            (subst (λ l. Contains l (get_or usages place d)) (sym (front-more usages place d within))
-            (Contains-push (take place usages) (get_or usages place d))),
+      sound held (inr (same, may_be)) = (
+        get_or usages place d,
+        subst (λ l. Contains l (get_or usages place d)) (sym (front-more usages place d within))
+            (Contains-push (take place usages) (get_or usages place d)),
+        same,
         may_be,
       )
 
       complete : (usage : Usage) → MayBeThere numbers pairs state usage.group
           → Contains (take place usages) usage ⊎ (get_or usages place d ≡ usage)
-          → Contains new usage.key
-      complete usage may_be (inl has) = adds.kept usage.key (are.complete usage has may_be)
+          → Contains new (held_of usage.key)
+      complete usage may_be (inl has) = adds.kept (held_of usage.key) (are.complete usage has may_be)
       complete usage may_be (inr same) =
-          subst (λ (u : Usage). Contains new u.key) same
+          subst (λ (u : Usage). Contains new (held_of u.key)) same
           (adds.complete (subst (λ (u : Usage). MayBeThere numbers pairs state u.group) (sym same) may_be))
 
--- a key that is put into a set
-pub adds-key : (numbers : List ℕ) (pairs : List Pair) (state : ℕ) (usage : Usage) (old new : BTreeSet Key)
-    → MayBeThere numbers pairs state usage.group
-    → ((q : Key) → contains cmp-value.it new q ≡ (if is_at (cmp-value.it usage.key) q then true else contains cmp-value.it old q))
-    → contains_by (cmp-value.it usage.key) new ≡ true
-    → AddsUsage numbers pairs state usage old.keys new.keys
-adds-key numbers pairs state usage old new may_be others there = record {
-  kept = λ key has. (within new key).0
-      (others key ∙ kept (is_at (cmp-value.it usage.key) key) (contains cmp-value.it old key) ((within old key).1 has));
-  sound = λ key has. sound key (is_at (cmp-value.it usage.key) key) refl (sym (others key) ∙ (within new key).1 has);
-  complete = λ _. (within new usage.key).0 there;
+-- the register of a usage is put behind the others
+pub adds-pushed : (numbers : List ℕ) (pairs : List Pair) (state : ℕ) (usage : Usage) (old : List Held)
+    → MayBeThere numbers pairs state usage.group → AddsUsage numbers pairs state usage old (old ++ held_of usage.key ∷ [])
+adds-pushed numbers pairs state usage old may_be = record {
+  kept = λ held has. Contains-append_left old (held_of usage.key ∷ []) held has;
+  sound = λ held has. sound held (Contains-push_cases old (held_of usage.key) held has);
+  complete = λ _. Contains-push old (held_of usage.key);
 }
   where
-    within : (keys : BTreeSet Key) (key : Key) → IsTrue (contains cmp-value.it keys key) ↔ Contains keys.keys key
-    within keys key = btree_set_contains_iff keys_total same_key keys key
-
-    kept : (b was : Bool) → was ≡ true → (if b then true else was) ≡ true
-    kept true was is = refl
-    kept false was is = is
-
-    sound : (key : Key) (b : Bool) → is_at (cmp-value.it usage.key) key ≡ b → (if b then true else contains cmp-value.it old key) ≡ true
-        → Contains old.keys key ⊎ ((key ≡ usage.key) × MayBeThere numbers pairs state usage.group)
-    sound key true same is = inr (sym (same_at usage.key key same), may_be)
-    sound key false apart is = inl ((within old key).0 is)
+    sound : (held : Held) → Contains old held ⊎ (held_of usage.key ≡ held)
+        → Contains old held ⊎ ((held_of usage.key ≡ held) × MayBeThere numbers pairs state usage.group)
+    sound held (inl was) = inl was
+    sound held (inr same) = inr (same, may_be)

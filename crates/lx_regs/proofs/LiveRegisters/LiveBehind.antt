@@ -1,5 +1,5 @@
 -- What is live behind an edge, from what is kept of the live registers.
-use Rattle.std.proofs.Common.{◌≡◌, ℕ, ◌<◌, ◌⊎◌, inl, inr, true, false, List, Option, get_or, length, map, nat_eq, if◌then◌else◌, sym, ap, ◌∙◌, subst}
+use Rattle.std.proofs.Common.{◌≡◌, ℕ, ◌<◌, ◌⊎◌, inl, inr, true, false, List, Option, get_or, length, nat_eq, if◌then◌else◌, sym, ap, ◌∙◌, subst}
 use Rattle.std.specs.Bool.{MatchBool}
 use Rattle.std.specs.Prelude.{◌≢◌, Contains}
 use Rattle.std.proofs.lemmas.Bool.{cases_eq, eq-eqb, ne_eqb}
@@ -9,15 +9,12 @@ use Rattle.lx_auto.specs.declared.automaton.Held.{Held}
 use Rattle.lx_auto.specs.Automaton.{IsAuto, state_of}
 use Rattle.lx_auto.specs.Live.{AtSomePoint, IsLiveBehind}
 use Rattle.lx_auto.specs.Points.{Point, IsReached, goes_on, left_behind}
-use Rattle.lx_auto.proofs.SameLists.{Contains-map, map-Contains}
 use Rattle.lx_regs.specs.declared.items.Item.{Item}
-use Rattle.lx_regs.specs.declared.keys.Key.{Key}
 use Rattle.lx_regs.specs.declared.live.Liveness.{Liveness}
 use Rattle.lx_regs.specs.Items.{IsWhere, MayBeLeft}
-use Rattle.lx_regs.specs.Keys.{held_of}
 use Rattle.lx_regs.specs.LeftGroups.{group_left}
 use Rattle.lx_regs.specs.LiveSets.{AreLiveBehind, IsLivenessOf}
-use Rattle.lx_regs.specs.Liveness.{AreKeysBehind, MayBeThere, usages_at}
+use Rattle.lx_regs.specs.Liveness.{AreHeldBehind, MayBeThere, usages_at}
 use Rattle.lx_regs.specs.Reached.{IsPair}
 use Rattle.lx_regs.proofs.LiveRegisters.LiveItems.{live-has_item}
 use Rattle.lx_regs.proofs.LiveRegisters.PairSearch.{edge-within, group_left-behind}
@@ -97,25 +94,24 @@ module _ (auto : Auto) (formed : IsAuto auto) (liveness : Liveness) (is : IsLive
           put_false (inr (e ∙ left-there left ∙ ap (λ b. if b then group_left liveness.numbers.items left else own) (ne_eqb own 0 some)))
           some
 
-  pub live-behind : (keys : List Key) → get_or liveness.marks.items state false ≡ true
-      → AreKeysBehind liveness.numbers.items liveness.pairs state (usages_at liveness.usages.items edge.to) keys
-      → AreLiveBehind auto state edge (map held_of keys)
-  live-behind keys marked behind = record { sound = sound; complete = complete }
+  pub live-behind : (registers : List Held) → get_or liveness.marks.items state false ≡ true
+      → AreHeldBehind liveness.numbers.items liveness.pairs state (usages_at liveness.usages.items edge.to) registers
+      → AreLiveBehind auto state edge registers
+  live-behind registers marked behind = record { sound = sound; complete = complete }
     where
-      sound : (held : Held) → Contains (map held_of keys) held → AtSomePoint auto state (λ point. IsLiveBehind auto point edge held)
+      sound : (held : Held) → Contains registers held → AtSomePoint auto state (λ point. IsLiveBehind auto point edge held)
       sound held among =
-          let (key, in_keys, same) = map-Contains held_of keys held among in
-          let (group, usage, may_be) = behind.sound key in_keys in
-          let item : Item = record { state = edge.to; group = group; key = key } in
-          let right = is.live.begun.sound item (is.usages.sound edge.to (record { group = group; key = key }) usage) in
-          let (left, reached, is_where) = somewhere group (is.marks.sound state marked) may_be in (
+          let (usage, has_usage, same, may_be) = behind.sound held among in
+          let item : Item = record { state = edge.to; group = usage.group; key = usage.key } in
+          let right = is.live.begun.sound item (is.usages.sound edge.to usage has_usage) in
+          let (left, reached, is_where) = somewhere usage.group (is.marks.sound state marked) may_be in (
             left,
             reached,
             subst (λ h. IsLiveBehind auto (point_at left) edge h) same
                 (right.live (left_behind auto (point_at left)) is_where),
           )
 
-      complete : (held : Held) → AtSomePoint auto state (λ point. IsLiveBehind auto point edge held) → Contains (map held_of keys) held
+      complete : (held : Held) → AtSomePoint auto state (λ point. IsLiveBehind auto point edge held) → Contains registers held
       complete held (left, reached, live) =
           let (item, among, from, same, where_item) =
           live-has_item auto liveness.numbers.items is.lists liveness.pairs is.items is.groups is.pairs is.live
@@ -124,6 +120,5 @@ module _ (auto : Auto) (formed : IsAuto auto) (liveness : Liveness) (is : IsLive
           (edge-within auto state edge formed has) in
           let usage = subst (λ s. Contains (usages_at liveness.usages.items s) (record { group = item.group; key = item.key })) from
           (is.usages.complete item within among) in
-          subst (λ h. Contains (map held_of keys) h) same
-          (Contains-map held_of keys item.key
-          (behind.complete (record { group = item.group; key = item.key }) usage (there left reached item.group where_item)))
+          subst (Contains registers) same
+          (behind.complete (record { group = item.group; key = item.key }) usage (there left reached item.group where_item))

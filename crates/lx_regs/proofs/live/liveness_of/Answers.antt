@@ -23,4 +23,5 @@ returns c =
       marks = c.in_ok-pairs.ensures.marks;
       live = subst (λ n. AreItems auto n lists pairs items) same c.in_ok-usages.ensures.live;
       usages = c.in_ok-usages.ensures.sorted;
+      order = c.in_ok-usages.ensures.order;
     }

@@ -3,6 +3,7 @@ use Rattle.std.proofs.lemmas.Result.{IfOk-weaker}
 use Rattle.std.specs.Prelude.{Contains}
 use Rattle.lx_regs.specs.declared.items.Item.{Item}
 use Rattle.lx_regs.specs.Liveness.{AreSorted}
+use Rattle.lx_regs.proofs.LiveRegisters.UsageOrder.{sorted-ordered}
 use Rattle.lx_regs.proofs.live.usages_of.Goals as goal
 
 pub by_state-requires : goal.by_state-requires
@@ -14,11 +15,16 @@ by_state-requires c = λ item has.
 pub returns : goal.returns
 returns c =
     let count = ap length c.as_slice.ensures in
-    IfOk-weaker c.by_state.result _ _
-    (λ usages sorted. record {
-      items = c.in_ok-items.items;
+    let items = c.in_ok-items.items in
+    let lists = c.in_ok-lists.lists.items in
+    let sorted : AreSorted (length c.args.auto.now.states) items lists =
+    subst (λ n. AreSorted n items lists) count
+    (subst (λ (l : List Item). AreSorted (length c.as_slice.result.now) l lists) c.as_slice-2.ensures c.in_ok-lists.ensures) in
+    IfOk-weaker c.each_in_order.result _ _
+    (λ usages ordered. record {
+      items = items;
       live = c.in_ok-items.ensures;
-      sorted = subst (λ n. AreSorted n c.in_ok-items.items usages.items) count
-          (subst (λ (l : List Item). AreSorted (length c.as_slice.result.now) l usages.items) c.as_slice-2.ensures sorted);
+      sorted = sorted-ordered lists usages.items (length c.args.auto.now.states) items ordered sorted;
+      order = ordered.order;
     })
-    c.by_state.ensures
+    c.each_in_order.ensures
