@@ -3,6 +3,7 @@ pub mod ClosureLoop
 pub mod ClosureUnique
 pub mod FoundWalks
 pub mod LeastWalks
+pub mod NotedStops
 pub mod PlainWalks
 pub mod SearchBasics
 pub mod SearchBounds

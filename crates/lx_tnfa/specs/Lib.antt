@@ -8,6 +8,7 @@ pub mod LeafReadings
 pub mod Live
 pub mod Making
 pub mod Moves
+pub mod Noted
 pub mod PlaceNumbers
 pub mod PlainWalks
 pub mod Rows

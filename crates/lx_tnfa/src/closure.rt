@@ -4,8 +4,8 @@ ghost use Rattle.std.specs.Prelude.{◌≡◌, [], ◌++◌, map, reverse, lengt
 use crate::places::Place;
 use crate::search::{Branch, Entry, Search, Way, push_begins, push_moves, push_starts};
 use crate::states::{Event, State};
+use crate::stops::VisitedStops;
 use crate::tnfa::Tnfa;
-use crate::visited::Visited;
 use lx_base::{Memory, Sequence};
 use lx_encode::Residual;
 use std::alloc::Global;
@@ -104,7 +104,7 @@ impl Tnfa {
     }
 
     /// Whether a stop is to be entered, which then counts as visited: not where no end can be reached from it, and only once.
-    fn enters(&self, visited: &mut Visited<Stop>, stop: Stop) -> Result<bool, Memory>
+    fn enters(&self, visited: &mut VisitedStops, stop: Stop) -> Result<bool, Memory>
         ensures { IfOk result (Enters self.now stop visited.old visited.new) }
     {
         if self.is_dead(stop) {
@@ -165,7 +165,8 @@ impl Tnfa {
     /// `Search`. Its buffers are kept, and grow to the largest call; all other memory that is taken is the answer's.
     ///
     /// The search is depth first, with a stack of the stops that wait, and a trail of the events on the way to the stop where it is.
-    /// It takes time linear in the states and moves that it visits, the events of these moves, and the answer.
+    /// It takes time linear in the states and moves that it visits, the events of these moves, and the answer, and once for each `Search`
+    /// also in the states of the automaton.
     pub fn closure_with(
         &self,
         alloc: Global,

@@ -11,6 +11,7 @@ mod places;
 mod search;
 mod shape;
 mod states;
+mod stops;
 mod tags;
 mod tnfa;
 mod visited;

@@ -7,7 +7,7 @@ ghost use Rattle.lx_tnfa.specs.declared.closure.Stop.TheVariants.{AtState};
 use crate::closure::{Stop, Target};
 use crate::places::Place;
 use crate::states::{Event, Move};
-use crate::visited::Visited;
+use crate::stops::VisitedStops;
 use lx_base::Memory;
 use lx_encode::Residual;
 use std::alloc::Global;
@@ -56,7 +56,7 @@ impl Branch {
 /// It may hold anything from call to call: no answer depends on what it held. Its buffers are kept, and grow to what the largest
 /// call needed.
 pub struct Search {
-    pub(crate) visited: Visited<Stop>,
+    pub(crate) visited: VisitedStops,
     pub(crate) waiting: Vec<Entry>,
     pub(crate) trail: Vec<Event>,
 }
@@ -75,7 +75,7 @@ impl Search {
     /// Empty buffers. It takes no memory.
     pub fn new(alloc: Global) -> Search {
         Search {
-            visited: Visited::new(alloc),
+            visited: VisitedStops::new(alloc),
             waiting: Vec::new(alloc),
             trail: Vec::new(alloc),
         }

@@ -6,7 +6,6 @@ use Rattle.lx_tnfa.specs.Search.{Enters}
 use Rattle.lx_tnfa.specs.Closure.{IsDead}
 use Rattle.lx_tnfa.specs.declared.closure.Stop.{Stop}
 use Rattle.lx_tnfa.specs.declared.tnfa.Tnfa.{Tnfa}
-use Rattle.lx_tnfa.proofs.Searching.StopSets.{TellsEqual-stops}
 use Rattle.lx_tnfa.proofs.tnfa.Tnfa.enters.Goals as goal
 
 entered : {E : Type 0} (tnfa : Tnfa) (stop : Stop) (old new : List Stop) (answer : Result Bool E) → ¬ IsDead tnfa stop
@@ -18,4 +17,4 @@ entered tnfa stop old new (Err error) live added = added
 pub returns : goal.returns
 returns c =
     entered c.args.self.now c.args.stop c.args.visited.now c.add.new.self c.add.result
-    (λ dead. false≢true (sym c.if-is_dead.false ∙ c.is_dead.ensures.1 dead)) (c.add.ensures TellsEqual-stops)
+    (λ dead. false≢true (sym c.if-is_dead.false ∙ c.is_dead.ensures.1 dead)) c.add.ensures
