@@ -21,6 +21,10 @@ pub(crate) struct Hints {
     pub(crate) free_mregs: u32,
     /// The value to which each slot goes, by its name, if it is known.
     pub(crate) of: Vec<Option<Held>>,
+    /// In which turn that became known of each slot: earlier, the fewer steps there are to the value. No turn is 0.
+    turns: Vec<usize>,
+    /// The turns so far.
+    turn: usize,
 }
 
 impl Drop for Hints {
@@ -31,6 +35,8 @@ impl Drop for Hints {
             free_regs: _,
             free_mregs: _,
             of: _,
+            turns: _,
+            turn: _,
         } = self;
     }
 }
@@ -68,6 +74,8 @@ impl Hints {
             free_regs: _,
             free_mregs: _,
             of: _,
+            turns: _,
+            turn: _,
         } = self;
         table
     }
@@ -133,9 +141,26 @@ impl Hints {
             && hint.is_some()
         {
             *kept = hint;
+            self.note_turn(way.source);
             return true;
         }
         false
+    }
+
+    /// Notes that it is known now to which value a slot goes.
+    fn note_turn(&mut self, place: usize) {
+        self.turn = self.turn.saturating_add(1);
+        if let Some(kept) = self.turns.get_mut(place) {
+            *kept = self.turn;
+        }
+    }
+
+    /// In which turn it became known to which value a slot goes; 0 where it is not known.
+    pub(crate) fn turn_of(&self, place: usize) -> usize {
+        match self.turns.get(place) {
+            Some(turn) => *turn,
+            None => 0,
+        }
     }
 
     /// The same of all ways, each once.
@@ -210,12 +235,16 @@ pub(crate) fn none_kept(alloc: Global, count: usize) -> Result<Vec<Option<Held>>
 /// No hints for so many slots.
 fn no_hints(alloc: Global, count: usize) -> Result<Hints, Memory> {
     let of = none_kept(alloc, count)?;
+    let mut turns = Vec::new(alloc);
+    turns.resize(count, 0)?;
     Ok(Hints {
         table: NameTable::new(alloc),
         named: IndexMap::new(alloc),
         free_regs: 0,
         free_mregs: 0,
         of,
+        turns,
+        turn: 0,
     })
 }
 

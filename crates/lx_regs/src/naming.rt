@@ -1,7 +1,7 @@
 //! Names for the classes of registers at each state, so that few values have to be moved.
 //!
-//! A class gets the name of the value to which it goes later on; of several such classes at a state one gets it, by their webs. States are
-//! named as a breadth-first search meets them. A class that is left takes over the name of what comes to it along the edge by which its
+//! A class gets the name of the value to which it goes later on; of several such classes at a state one gets it, by their webs, and in one
+//! web the one that comes to the value first. States are named as a breadth-first search meets them. A class that is left takes over the name of what comes to it along the edge by which its
 //! state was met; else it gets one that is free.
 use crate::classes::{Classes, at};
 use crate::flows::{Flow, Flows, Move, Source, code_of, number_of, with_number};
@@ -38,6 +38,13 @@ pub(crate) fn slots_by_state(alloc: Global, flows: &Flows) -> Result<Vec<Vec<usi
     Ok(lists)
 }
 
+/// A class that goes to a value, and the turn in which that became known.
+#[derive(Clone, Copy)]
+struct Candidate {
+    class: usize,
+    turn: usize,
+}
+
 /// Names, as they are given.
 struct Namer<'a> {
     /// The hints, with the table in which names are noted.
@@ -49,7 +56,7 @@ struct Namer<'a> {
     /// The names that are taken at a state, by their codes.
     taken: IndexSet<u32>,
     /// The class at a state that gets the name of a value, by the code of this.
-    first: IndexMap<u32, usize>,
+    first: IndexMap<u32, Candidate>,
 }
 
 impl Drop for Namer<'_> {
@@ -125,16 +132,27 @@ impl<'a> Namer<'a> {
     }
 
     /// Notes a class that goes to a value, if it is before the others so far.
-    fn note_first(&mut self, class: usize, value: Held) -> Result<(), Memory> {
+    fn note_first(&mut self, candidate: Candidate, value: Held) -> Result<(), Memory> {
         let code = code_of(value);
         let is_first = match self.first.get(&code) {
-            Some(other) => self.webs.is_before(class, *other),
+            Some(other) if self.webs.are_joined(candidate.class, other.class) => {
+                candidate.turn < other.turn
+            }
+            Some(other) => self.webs.is_before(candidate.class, other.class),
             None => true,
         };
         if is_first {
-            self.first.insert(code, class)?;
+            self.first.insert(code, candidate)?;
         }
         Ok(())
+    }
+
+    /// Whether a class gets the name of a value.
+    fn has_first(&self, class: usize, value: Held) -> bool {
+        match self.first.get(&code_of(value)) {
+            Some(candidate) => candidate.class == class,
+            None => false,
+        }
     }
 
     /// Gives classes the names of values to which they go.
@@ -142,13 +160,17 @@ impl<'a> Namer<'a> {
         self.first.clear();
         for place in places {
             if let Some(value) = held_at(self.hints.of.as_slice(), *place) {
-                self.note_first(at(classes, *place), value)?;
+                let candidate = Candidate {
+                    class: at(classes, *place),
+                    turn: self.hints.turn_of(*place),
+                };
+                self.note_first(candidate, value)?;
             }
         }
         for place in places {
             let class = at(classes, *place);
             if let Some(value) = held_at(self.hints.of.as_slice(), *place)
-                && self.first.get(&code_of(value)) == Some(&class)
+                && self.has_first(class, value)
             {
                 self.claim(class, value)?;
             }

@@ -197,6 +197,11 @@ impl Webs {
         }
     }
 
+    /// Whether two classes are of one web.
+    pub(crate) fn are_joined(&mut self, class: usize, other: usize) -> bool {
+        self.least(class) == self.least(other)
+    }
+
     /// Whether a class gets the name rather than another one at its state.
     pub(crate) fn is_before(&mut self, class: usize, other: usize) -> bool {
         let (web, behind) = (self.least(class), self.least(other));
