@@ -1,4 +1,5 @@
 pub mod CutOperations
+pub mod FoldedEdges
 pub mod LiveRegisters
 pub mod SharedNames
 pub mod Translations

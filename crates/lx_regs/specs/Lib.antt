@@ -3,6 +3,7 @@ pub mod Bounds
 pub mod Colours
 pub mod Dead
 pub mod EffectIndexes
+pub mod FoldedEdges
 pub mod Graphs
 pub mod Growth
 pub mod HeldGraphs

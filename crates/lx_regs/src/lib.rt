@@ -11,6 +11,7 @@ mod dead;
 mod effects;
 mod fitting;
 mod flows;
+mod folding;
 mod found;
 mod graphs;
 mod held_graphs;
