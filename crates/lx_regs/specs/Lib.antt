@@ -29,4 +29,5 @@ pub mod Reads
 pub mod Shapes
 pub mod SharedNames
 pub mod Tested
+pub mod Unset
 pub mod WrittenBeside

@@ -9,6 +9,7 @@ ghost use Rattle.lx_regs.specs.Shapes.{KeepsShape};
 use crate::dead::drop_dead;
 use crate::folding::{folded, unfolded};
 use crate::merging::merge_equal;
+use crate::needless_nulls::drop_needless_nulls;
 use crate::renaming::choose_by_state;
 use crate::sharing_rounds::share_all;
 use lx_auto::Auto;
@@ -27,7 +28,8 @@ fn allocate_folded(alloc: Global, auto: Auto) -> Result<Auto, Memory>
     let merged = merge_equal(alloc, auto)?;
     let read = drop_dead(alloc, merged)?;
     let chosen = choose_by_state(alloc, read)?;
-    let live = drop_dead(alloc, chosen)?;
+    let needed = drop_needless_nulls(alloc, chosen)?;
+    let live = drop_dead(alloc, needed)?;
     share_all(alloc, live)
 }
 

@@ -125,7 +125,7 @@ module _ (given : Auto) (number : ℕ) where
   accept-shape (Some accept) (Some other) cut = λ i. Some (record { rule = cut.rule i; histories = map is_history (cut.values i) })
 
 -- states that are all formed
-AreStates-each : (regs mregs count : ℕ) (states : List State) → ((number : ℕ) → IsState regs mregs count (state_of states number))
+pub AreStates-each : (regs mregs count : ℕ) (states : List State) → ((number : ℕ) → IsState regs mregs count (state_of states number))
     → AreStates regs mregs count states
 AreStates-each regs mregs count [] each = tt
 AreStates-each regs mregs count (state ∷ states) each = (each 0, AreStates-each regs mregs count states (λ number. each (suc number)))

@@ -15,12 +15,15 @@ returns-clause-run c =
     let merged = c.in_ok-merged.merged in
     let read = c.in_ok-read.read in
     let chosen = c.in_ok-chosen.chosen in
+    let needed = c.in_ok-needed.needed in
     let live = c.in_ok-live.live in
     IfOk-then _ _ c.share_all.result
     (λ answer run. same_run-through answer merged given
     (same_run-through answer read merged
     (same_run-through answer chosen read
-    (same_run-through answer live chosen run c.in_ok-live.ensures.run) c.in_ok-chosen.ensures.run) c.in_ok-read.ensures.run)
+    (same_run-through answer needed chosen
+    (same_run-through answer live needed run c.in_ok-live.ensures.run) c.in_ok-needed.ensures.run) c.in_ok-chosen.ensures.run)
+    c.in_ok-read.ensures.run)
     c.in_ok-merged.ensures.run)
     c.share_all.ensures.run
 
@@ -30,10 +33,12 @@ returns-clause-kept c =
     let merged = c.in_ok-merged.merged in
     let read = c.in_ok-read.read in
     let chosen = c.in_ok-chosen.chosen in
+    let needed = c.in_ok-needed.needed in
     let live = c.in_ok-live.live in
     IfOk-then _ _ c.share_all.result
     (λ answer kept. KeepsShape-through given merged answer c.in_ok-merged.ensures.kept
     (KeepsShape-through merged read answer c.in_ok-read.ensures.kept
     (KeepsShape-through read chosen answer c.in_ok-chosen.ensures.kept
-    (KeepsShape-through chosen live answer c.in_ok-live.ensures.kept kept))))
+    (KeepsShape-through chosen needed answer c.in_ok-needed.ensures.kept
+    (KeepsShape-through needed live answer c.in_ok-live.ensures.kept kept)))))
     c.share_all.ensures.kept
