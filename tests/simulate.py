@@ -45,6 +45,8 @@ class Machine:
         self.answered = False
         self.cond = piece.conds[0][0] if piece.conds else None
         self.cursor = 0
+        # ends of groups stay from match to match
+        self.ends = {}
         self.statements = sum(len(code) for code in piece.blocks)
 
     def padding(self):
@@ -60,7 +62,6 @@ class Machine:
         self.histories = {}
         self.state = None
         self.tags = {}
-        self.ends = {}
         self.groups = None
         self.goes = None
 
